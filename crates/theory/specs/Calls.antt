@@ -17,7 +17,7 @@ use Rattle.theory.specs.declared.row.Row.{Row}
 use Rattle.theory.specs.declared.row.Side.{Side}
 use Rattle.theory.specs.Rows.{Feasible, Greatest}
 use Rattle.theory.specs.Rules.{side-fault, row-fault, or-else}
-use Rattle.theory.specs.Meaning.{Meaning, with-row, with-level, without-level}
+use Rattle.theory.specs.Meaning.{Meaning, empty, with-row, with-level, without-level}
 
 -- the first of the rules 1 to 6 that a put of r breaks
 abbrev pub put-fault : Meaning → Row → Option Refusal
@@ -47,3 +47,8 @@ Tightest m s (Err e) n = (side-fault (m .sizes) s ≡ Some e) × (n ≡ m)
 abbrev pub Row-at : Meaning → ℕ → Result Row Refusal → Meaning → Type 0
 Row-at m k (Ok r) n = (k < length (m .rows)) × (r ≡ getD (m .rows) k r) × (n ≡ m)
 Row-at m k (Err e) n = (length (m .rows) ≤ k) × (e ≡ refusal.NoRow) × (n ≡ m)
+
+-- a start over a theory asks that it is empty
+abbrev pub Empty-checked : Meaning → Result (Unit {0}) Refusal → Type 0
+Empty-checked m (Ok _) = m ≡ empty (m .sizes)
+Empty-checked m (Err e) = (m ≡ empty (m .sizes) → ⊥) × (e ≡ refusal.Unfit)

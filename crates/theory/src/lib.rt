@@ -6,7 +6,7 @@ ghost use lib.ListN.{length};
 ghost use Rattle.std.specs.Vec.{made};
 ghost use Rattle.theory.specs.Meaning.{Meaning, Sane, empty};
 ghost use Rattle.theory.specs.declared.sizes.Sizes.{Sizes as TheSizes};
-ghost use Rattle.theory.specs.Calls.{Put, Push, Pop, Tightest};
+ghost use Rattle.theory.specs.Calls.{Put, Push, Pop, Tightest, Empty-checked};
 use refusal::Refusal;
 use row::Row;
 use row::Side;
@@ -59,9 +59,20 @@ pub trait Theory {
         ensures answers { λ r. ⌜ Tightest (meaning (now (self .entry))) side r (meaning (now (self .exit))) ⌝ };
 }
 
-// What a theory can be made from: any number of values of one kind start theories of the same sizes.
+// The check before a start over a theory: refused unless it is empty.
+pub fn check_empty<T: Theory>(theory: &T) -> Result<(), Refusal>
+    requires { ⌜ sound (now theory) ⌝ }
+    ensures { λ r. ⌜ Empty-checked (meaning (now (theory .entry))) r ⌝ }
+{
+    if theory.row_count() != 0 || theory.level_count() != 0 {
+        return Err(Refusal::Unfit);
+    }
+    Ok(())
+}
+
+// What an empty theory can be made from; `starts` gives its sizes.
 pub trait Start {
-    type Made: Theory;
+    type Made: Theory + Drop;
 
     ghost starts: { Self → TheSizes };
 
