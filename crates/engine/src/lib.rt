@@ -7,7 +7,6 @@ use std::alloc::Global;
 use theory::Theory;
 use theory::check_empty;
 use theory::refusal::Refusal;
-use theory::refusal::RefusalDebug;
 use theory::refusal::RefusalPartialEq;
 use theory::row::Row;
 use theory::row::Side;
@@ -22,7 +21,7 @@ pub struct Engine<T> {
     levels: Vec<u32>,
 }
 
-#[derive(Clone, Copy, PartialEq, Eq, Debug)]
+#[derive(Clone, Copy, PartialEq)]
 pub enum Cause {
     Memory,
     Refused(Refusal),

@@ -16,24 +16,22 @@ ghost use Rattle.histories.specs.Law.{Law, Faulted};
 ghost use Rattle.histories.specs.declared.Call.the-variants.{Offer as TheOffer};
 ghost use Rattle.histories.specs.declared.Fault.the-variants.{Memory};
 ghost use Rattle.theory.specs.Meaning.{empty};
+
+pub mod text;
+
 use engine::Engine;
 use std::alloc::AllocError;
 use std::alloc::Global;
-use std::alloc::Refused;
 use theory::Start;
 use theory::Theory;
 use theory::refusal::Refusal;
-use theory::refusal::RefusalDebug;
 use theory::refusal::RefusalPartialEq;
 use theory::row::Row;
-use theory::row::RowDebug;
 use theory::row::RowPartialEq;
 use theory::row::Side;
-use theory::row::SideDebug;
-use theory::row::SidePartialEq;
 use theory::sizes::SizesPartialEq;
 
-#[derive(Clone, Copy, PartialEq, Eq, Debug)]
+#[derive(Clone, Copy)]
 pub enum Call {
     Push,
     Pop,
@@ -42,7 +40,7 @@ pub enum Call {
     RowAt(u32),
 }
 
-#[derive(Clone, Copy, PartialEq, Eq, Debug)]
+#[derive(Clone, Copy, PartialEq)]
 pub enum Answer {
     Done,
     Value(Option<i64>),
@@ -63,7 +61,7 @@ pub struct History {
 }
 
 // Why there is no history: want of memory, or two theories of different sizes.
-#[derive(Clone, Copy, PartialEq, Eq, Debug)]
+#[derive(Clone, Copy, Debug)]
 pub enum Fault {
     Memory,
     Unlike,

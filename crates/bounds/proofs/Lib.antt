@@ -1,0 +1,10 @@
+pub mod Attain
+pub mod Bounds
+pub mod Differences
+pub mod Extend
+pub mod Fill
+pub mod Gap
+pub mod Lows
+pub mod Place
+pub mod Row
+pub mod Signs

@@ -1,0 +1,3 @@
+pub mod Extension
+pub mod Literals
+pub mod Tables
