@@ -1,7 +1,4 @@
-pub mod Refusals
-pub mod Sides
 pub mod Lines
 pub mod Sums
-pub mod Tables
 pub mod Stacks
 pub mod States

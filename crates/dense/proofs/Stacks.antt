@@ -8,7 +8,8 @@ use Rattle.std.proofs.shelf.Lists.{length-push, length-take-le, take-append-le,
 use Rattle.theory.specs.declared.row.Row.{Row}
 use Rattle.dense.specs.declared.Level.{Level}
 use Rattle.dense.specs.Entries.{entry}
-use Rattle.dense.specs.State.{Tabled, Stack}
+use Rattle.differences.specs.Tabled.{Tabled}
+use Rattle.dense.specs.State.{Stack}
 
 stack-low : (low : ℕ) (rows : List Row) (ls : List Level) → Stack low rows ls → low ≤ length rows
 stack-low low rows [] h = h
@@ -22,14 +23,14 @@ stack-row low rows (l ∷ ls) r h =
     (h .0, rw (take-append-le (l .count) rows (r ∷ []) within) (h .1), stack-row (l .count) rows ls r (h .2))
 
 -- one more level, which opens now
-pub stack-push : (low : ℕ) (rows : List Row) (ls : List Level) (l : Level) → l .count ≡ length rows → Tabled rows (entry (l .matrix)) → Stack low rows ls → Stack low rows (ls ++ l ∷ [])
+pub stack-push : (low : ℕ) (rows : List Row) (ls : List Level) (l : Level) → l .count ≡ length rows → Tabled 64 rows (entry (l .matrix)) → Stack low rows ls → Stack low rows (ls ++ l ∷ [])
 stack-push low rows [] l now t h = (omega arith, rw (take-all (l .count) rows (omega arith)) t, omega arith)
 stack-push low rows (x ∷ ls) l now t h = (h .0, h .1, stack-push (x .count) rows ls l now t (h .2))
 
 pub record Closed (low : ℕ) (rows : List Row) (ls : List Level) (l : Level) : Type 0 where
   pub from-low : low ≤ l .count
   pub within : l .count ≤ length rows
-  pub table : Tabled (take (l .count) rows) (entry (l .matrix))
+  pub table : Tabled 64 (take (l .count) rows) (entry (l .matrix))
   pub rest : Stack low (take (l .count) rows) ls
 
 -- the newest level closes, and the rows that came since are gone

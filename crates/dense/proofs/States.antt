@@ -16,49 +16,52 @@ use Rattle.theory.specs.Meaning.{Sane, with-row, with-level, without-level, new
 use Rattle.theory.specs.Rows.{Feasible}
 use Rattle.dense.specs.declared.Dense.{Dense}
 use Rattle.dense.specs.declared.Level.{Level}
-use Rattle.dense.specs.Entries.{entry, Near, far}
-use Rattle.dense.specs.State.{first, second, Fair, Tabled, Stack, Sound, meaning-of}
-use Rattle.dense.proofs.Sides.{ends-of, fair-side}
+use Rattle.differences.specs.Sides.{first, second, Fair, Difference}
+use Rattle.differences.specs.Tabled.{Near, Tabled}
+use Rattle.differences.proofs.Sides.{fair-difference}
+use Rattle.dense.specs.Entries.{entry, far}
+use Rattle.dense.specs.State.{Stack, Sound, meaning-of}
 use Rattle.dense.proofs.Stacks.{stack-row, stack-push, stack-pop}
-use Rattle.dense.proofs.Tables.{Same, next, same-tabled, table-feasible, table-near, table-agrees, table-with-row, table-takes, table-contradicts}
+use Rattle.differences.proofs.Tables.{Same, next, same-tabled, table-feasible, table-near, table-agrees, table-with-row, table-takes, table-contradicts}
 
 pub sound-near : (d : Dense) → Sound d → (i j : ℕ) → i < 64 → j < 64 → Near far (entry (d .matrix) i j)
-sound-near d s = table-near _ _ (s .fair) (s .table)
+sound-near d s = table-near 64 4000000 _ _ (s .differences) (s .table)
 
 pub sound-sane : (d : Dense) → Sound d → Sane (meaning-of d)
 sound-sane d s = record {
   limits = record { unknowns = omega arith; space = omega arith; depth = omega arith; reach = omega arith };
   rows-fit = omega (arith, s .rows-fit, d .rows .ok .0);
   levels-fit = simp length-map (omega (arith, s .levels-fit, d .levels .ok .0));
-  point = table-feasible _ _ (s .fair) (s .table);
+  point = table-feasible 64 4000000 _ _ (s .differences) (s .table);
 }
 
 -- rule 7 by the entry of the mirrored difference
 module _ (d : Dense) (s : Sound d) (r : Row) (fair : Fair r) where
   pub point-if-none : entry (d .matrix) (second (r .side)) (first (r .side)) ≡ None → Feasible (vec-items (d .rows) ++ r ∷ [])
-  point-if-none is = table-takes _ _ (s .table) r fair (s .fair) (λ x h. absurd (let z : _≡_ {A = ℕ} 0 1 = cc in omega arith))
+  point-if-none is = table-takes 64 4000000 _ _ (s .table) r (fair-difference r fair) (s .differences) (λ x h. absurd (let z : _≡_ {A = ℕ} 0 1 = cc in omega arith))
 
   pub point-if-met : (x : ℤ) → entry (d .matrix) (second (r .side)) (first (r .side)) ≡ Some x → pos 0 ≤ℤ (x +ℤ r .c) → Feasible (vec-items (d .rows) ++ r ∷ [])
-  point-if-met x is met = table-takes _ _ (s .table) r fair (s .fair) (λ y h. let same : x ≡ y = cc in rw same at met)
+  point-if-met x is met = table-takes 64 4000000 _ _ (s .table) r (fair-difference r fair) (s .differences) (λ y h. let same : x ≡ y = cc in rw same at met)
 
   pub entry-near : (x : ℤ) → entry (d .matrix) (second (r .side)) (first (r .side)) ≡ Some x → natAbs x ≤ far
   entry-near x is =
-      let e = ends-of (r .side) (fair-side r fair) in
+      let e = fair-difference r fair .ends in
       subst (Near far) is (sound-near d s (second (r .side)) (first (r .side)) (e .second-in) (e .first-in))
 
   pub no-point-if-below : (x : ℤ) → entry (d .matrix) (second (r .side)) (first (r .side)) ≡ Some x → (x +ℤ r .c) <ℤ pos 0 → Feasible (vec-items (d .rows) ++ r ∷ []) → ⊥
-  no-point-if-below x is below = table-contradicts _ _ (s .table) r fair x is below
+  no-point-if-below x is below = table-contradicts 64 4000000 _ _ (s .table) r (fair-difference r fair) x is below
 
 module _ (d e : Dense) (s : Sound d) where
   module _ (r : Row) (fair : Fair r) (levels : e .levels ≡ d .levels) (items : vec-items (e .rows) ≡ vec-items (d .rows) ++ r ∷ []) where
-    pub accept-sound : Feasible (vec-items (d .rows) ++ r ∷ []) → Same (next (entry (d .matrix)) r) (entry (e .matrix)) → vec-len (d .rows) < 1024 → vec-cap (e .rows) ≡ vec-cap (d .rows) → Sound e
+    pub accept-sound : Feasible (vec-items (d .rows) ++ r ∷ []) → Same 64 (next (entry (d .matrix)) r) (entry (e .matrix)) → vec-len (d .rows) < 1024 → vec-cap (e .rows) ≡ vec-cap (d .rows) → Sound e
     accept-sound point same room cap =
-        let agrees = table-agrees _ _ (s .table) r fair point in
-        let all-fair = all-push Fair _ r (s .fair) fair in
-        let table = same-tabled _ _ same _ all-fair (table-with-row _ _ (s .table) r fair agrees) in
+        let row = fair-difference r fair in
+        let agrees = table-agrees 64 4000000 _ _ (s .table) r row point in
+        let all = all-push (Difference 64 4000000) _ r (s .differences) row in
+        let table = same-tabled 64 4000000 _ _ same _ all (table-with-row 64 4000000 _ _ (s .table) r row agrees) in
         record {
-          table = subst (λ rows. Tabled rows (entry (e .matrix))) (sym items) table;
-          fair = subst (All Fair) (sym items) all-fair;
+          table = subst (λ rows. Tabled 64 rows (entry (e .matrix))) (sym items) table;
+          differences = subst (All (Difference 64 4000000)) (sym items) all;
           stack = rw (levels, items) (stack-row 0 _ _ r (s .stack));
           rows-fit = omega (arith, e .rows .ok .0, d .rows .ok .0, ap length items, length-push (vec-items (d .rows)) r);
           rows-room = omega (arith, s .rows-room);
@@ -73,7 +76,7 @@ module _ (d e : Dense) (s : Sound d) where
     pub open-sound : l .matrix ≡ d .matrix → vec-len (d .levels) < 128 → vec-cap (e .levels) ≡ vec-cap (d .levels) → Sound e
     open-sound copy room cap = record {
       table = rw (rows, matrix) (s .table);
-      fair = rw rows (s .fair);
+      differences = rw rows (s .differences);
       stack = rw (rows, items) (stack-push 0 _ _ l count (rw copy (s .table)) (s .stack));
       rows-fit = rw rows (s .rows-fit);
       rows-room = rw rows (s .rows-room);
@@ -96,7 +99,7 @@ module _ (d e : Dense) (s : Sound d) (l : Level) (levels : vec-items (d .levels)
       let c = stack-pop 0 _ _ l (subst (Stack 0 _) levels (s .stack)) in
       record {
         table = rw (rows, matrix) (c .table);
-        fair = rw rows (all-take Fair (l .count) _ (s .fair));
+        differences = rw rows (all-take (Difference 64 4000000) (l .count) _ (s .differences));
         stack = rw rows (c .rest);
         rows-fit = omega (arith, s .rows-fit);
         rows-room = omega (arith, s .rows-room);

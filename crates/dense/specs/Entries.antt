@@ -1,17 +1,18 @@
 -- What a matrix holds at its places. Assumes nothing.
 -- of-line, entry: what stands at a place.     Line-holds, Holds: what stands at every place.
--- Near: a bound lies near 0.                  Small: all bounds of a matrix do.
+-- Small: all bounds of a matrix lie near 0.
 -- no-bounds: the matrix of no rows.           line-with-row: a line after one more row.
 use mathlib.Core.Path.{_≡_}
 use mathlib.Core.Bool.{cond}
 use mathlib.Core.List.{List, []}
 use Prim.Native.Nat.{ℕ, _<_, _≤_}
 use lib.Dec.{eqb}
-use lib.IntN.{ℤ, pos, natAbs}
+use lib.IntN.{ℤ, pos}
 use lib.ListN.{getD}
 use Rattle.std.specs.declared.option.Option.{Option}
 use Rattle.std.specs.declared.option.Option.the-variants.{Some, None}
 use Rattle.bounds.specs.Tables.{Differences, least-of, sum-of}
+use Rattle.differences.specs.Tabled.{Near}
 use Rattle.dense.specs.declared.matrix.Matrix.{Matrix}
 
 abbrev pub of-line : List (Option ℤ) → ℕ → Option ℤ
@@ -32,11 +33,6 @@ far = 256000000
 
 abbrev pub further : ℕ
 further = 260000000
-
--- a bound that is there is at most n away from 0
-abbrev pub Near : ℕ → Option ℤ → Type 0
-Near n None = Unit {0}
-Near n (Some d) = natAbs d ≤ n
 
 abbrev pub Small : Matrix → Type 0
 Small m = (i j : ℕ) → i < 64 → j < 64 → Near far (entry m i j)

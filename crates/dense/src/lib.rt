@@ -16,7 +16,11 @@ ghost use Rattle.std.specs.declared.option.Option.the-variants.{None};
 ghost use Rattle.theory.specs.Meaning.{empty, with-row, with-level, without-level};
 ghost use Rattle.theory.specs.Rows.{Feasible, Greatest};
 ghost use Rattle.theory.specs.Rules.{side-fault};
-ghost use Rattle.dense.specs.State.{dense-sizes, first, second, meaning-of, Sound, Fair, Point-told};
+ghost use Rattle.theory.specs.Calls.{Point-checked};
+ghost use Rattle.differences.specs.Sides.{bottom-sizes, Fair};
+ghost use Rattle.dense.specs.State.{meaning-of, Sound};
+use differences::SIZES;
+use differences::ends;
 use matrix::Matrix;
 use std::alloc::AllocError;
 use std::alloc::Global;
@@ -25,23 +29,12 @@ use theory::Theory;
 use theory::refusal::Refusal;
 use theory::row::Row;
 use theory::row::Side;
-use theory::row::Sign;
 use theory::rules::check_row;
 use theory::rules::check_side;
-use theory::sizes::Breadth;
 use theory::sizes::Sizes;
 
 mod matrix;
 
-const SIZES: Sizes = Sizes {
-    unknowns: 64,
-    space: 1024,
-    depth: 128,
-    reach: 4_000_000,
-    breadth: Breadth::Differences,
-};
-
-// What stood when the level opened.
 #[derive(Clone, Copy)]
 struct Level {
     count: usize,
@@ -57,7 +50,7 @@ pub struct Dense {
 
 impl Dense {
     pub fn new(heap: Global) -> Result<Dense, AllocError>
-        ensures { λ r. ⌜ made r (λ d. Sound d × (meaning-of d ≡ empty dense-sizes)) ⌝ }
+        ensures { λ r. ⌜ made r (λ d. Sound d × (meaning-of d ≡ empty bottom-sizes)) ⌝ }
     {
         let rows = Vec::with_capacity(heap, SIZES.space as usize)?;
         let levels = Vec::with_capacity(heap, SIZES.depth as usize)?;
@@ -70,7 +63,7 @@ impl Dense {
 
     fn greatest(&self, side: Side) -> Option<i64>
         requires sound { ⌜ Sound (now self) ⌝ }
-        requires fair { ⌜ side-fault dense-sizes side ≡ None ⌝ }
+        requires fair { ⌜ side-fault bottom-sizes side ≡ None ⌝ }
         ensures { λ r. ⌜ Greatest (meaning-of (now (self .entry)) .rows) side r ⌝ }
     {
         let (u, v) = ends(side);
@@ -81,7 +74,7 @@ impl Dense {
     fn check_point(&self, row: Row) -> Result<(), Refusal>
         requires sound { ⌜ Sound (now self) ⌝ }
         requires fair { ⌜ Fair row ⌝ }
-        ensures { λ r. ⌜ Point-told (meaning-of (now (self .entry)) .rows) row r ⌝ }
+        ensures { λ r. ⌜ Point-checked (meaning-of (now (self .entry)) .rows) row r ⌝ }
     {
         let (u, v) = ends(row.side);
         let Some(most) = self.matrix.at(v, u) else {
@@ -128,16 +121,6 @@ impl Dense {
         let level = self.levels.pop().unwrap();
         self.rows.truncate(level.count);
         self.matrix = level.matrix;
-    }
-}
-
-// The unknowns u and v such that a side of opposite signs is x(u) − x(v).
-fn ends(side: Side) -> (usize, usize)
-    ensures { λ r. ⌜ r .0 ≡ first side ⌝ ∗ ⌜ r .1 ≡ second side ⌝ }
-{
-    match side.a {
-        Sign::Minus => (side.v as usize, side.u as usize),
-        _ => (side.u as usize, side.v as usize),
     }
 }
 
@@ -201,7 +184,7 @@ pub struct OverDense;
 pub impl Start for OverDense as DenseStart {
     type Made = Dense;
 
-    ghost starts = { λ _. dense-sizes };
+    ghost starts = { λ _. bottom-sizes };
 
     fn start(self, heap: Global) -> Result<Dense, AllocError> {
         Dense::new(heap)

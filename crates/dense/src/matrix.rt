@@ -2,8 +2,9 @@
 ghost use mathlib.Core.Path.{_≡_};
 ghost use Prim.Native.Nat.{ℕ, _<_, _≤_};
 ghost use lib.IntN.{natAbs};
+ghost use Rattle.differences.specs.Tabled.{Near};
 ghost use Rattle.bounds.specs.Tables.{sum-of, with-row};
-ghost use Rattle.dense.specs.Entries.{entry, of-line, Line-holds, Holds, Near, Small, far, further, no-bounds, line-with-row};
+ghost use Rattle.dense.specs.Entries.{entry, of-line, Line-holds, Holds, Small, far, further, no-bounds, line-with-row};
 use bounds::lesser;
 
 const SIDE: usize = 64;

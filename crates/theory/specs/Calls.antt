@@ -52,3 +52,8 @@ Row-at m k (Err e) n = (length (m .rows) ≤ k) × (e ≡ refusal.NoRow) × (n �
 abbrev pub Empty-checked : Meaning → Result (Unit {0}) Refusal → Type 0
 Empty-checked m (Ok _) = m ≡ empty (m .sizes)
 Empty-checked m (Err e) = (m ≡ empty (m .sizes) → ⊥) × (e ≡ refusal.Unfit)
+
+-- rule 7: some point meets the rows and r, or none does
+abbrev pub Point-checked : List Row → Row → Result (Unit {0}) Refusal → Type 0
+Point-checked rows r (Ok _) = Feasible (rows ++ r ∷ [])
+Point-checked rows r (Err e) = (e ≡ refusal.Contradiction) × (Feasible (rows ++ r ∷ []) → ⊥)

@@ -7,7 +7,7 @@ use mir.Val.{SFits}
 use Rattle.std.specs.Of.Vec.{vec-len}
 use Rattle.std.proofs.shelf.Signed.{toZ-ofZ}
 use Rattle.dense.specs.declared.Dense.{Dense}
-use Rattle.dense.proofs.Sides.{ends-of, fair-side, fair-near}
+use Rattle.differences.proofs.Sides.{ends-of, fair-side, fair-near}
 use Rattle.dense.proofs.States.{sound-near, accept-sound, accept-meaning}
 use Rattle.dense.proofs.Dense.accept.Needs as need
 

@@ -1,5 +1,5 @@
 use mathlib.Core.Path.{refl, sym, _∙_}
-use Rattle.dense.proofs.Sides.{fair-near}
+use Rattle.differences.proofs.Sides.{fair-near}
 use Rattle.dense.proofs.States.{entry-near, point-if-none, point-if-met, no-point-if-below}
 use Rattle.dense.proofs.Sums.{sum-fits, sum-below, sum-met}
 use Rattle.dense.proofs.Dense.check_point.Needs as need

@@ -2,7 +2,7 @@ use mathlib.Core.Path.{refl}
 use native.Mathlib.Omega.{arith}
 use Rattle.std.proofs.shelf.Results.{err-from-errBy}
 use Rattle.std.proofs.shelf.Tests.{lt-leb}
-use Rattle.dense.proofs.Refusals.{first-refuses, last-refuses}
+use Rattle.theory.proofs.Faults.{first-refuses, last-refuses}
 use Rattle.dense.proofs.DenseTheory.put.Needs as need
 
 pub returns-in-Break-check-row : need.returns-in-Break-check-row

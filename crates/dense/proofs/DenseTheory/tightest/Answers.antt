@@ -1,6 +1,6 @@
 use mathlib.Core.Path.{refl}
 use Rattle.std.proofs.shelf.Results.{err-from-errBy}
-use Rattle.dense.proofs.Refusals.{fault-of-err}
+use Rattle.theory.proofs.Faults.{fault-of-err}
 use Rattle.dense.proofs.DenseTheory.tightest.Needs as need
 
 pub returns-in-Break-check-side : need.returns-in-Break-check-side
