@@ -22,11 +22,12 @@ fn check_table(heap: Global, table: &[(Call, Answer)]) -> Result<(), Fail> {
     for line in table {
         calls.push(line.0)?;
     }
-    let history = over_dense(heap, calls.as_slice())?;
+    let dense = dense_first(heap, calls.as_slice())?;
+    let sparse = sparse_first(heap, calls.as_slice())?;
     for (place, line) in table.iter().enumerate() {
-        check(answer_at(&history, place) == Some(line.1))?;
+        check(both_answer(&dense, &sparse, place, line.1))?;
     }
-    check(history.first == history.second)
+    check(dense.first == dense.second && sparse.first == sparse.second)
 }
 
 #[test]
@@ -121,11 +122,12 @@ fn levels_to_the_full_depth(rt: LibcRuntime) -> Result<(), Fail> {
     for _ in 0..129 {
         calls.push(Call::Pop)?;
     }
-    let history = over_dense(heap, calls.as_slice())?;
-    check(answer_at(&history, 127) == Some(Answer::Done))?;
-    check(answer_at(&history, 128) == Some(Answer::Refused(Refusal::Depth)))?;
-    check(answer_at(&history, 256) == Some(Answer::Done))?;
-    check(answer_at(&history, 257) == Some(Answer::Refused(Refusal::NoLevel)))
+    let dense = dense_first(heap, calls.as_slice())?;
+    let sparse = sparse_first(heap, calls.as_slice())?;
+    check(both_answer(&dense, &sparse, 127, Answer::Done))?;
+    check(both_answer(&dense, &sparse, 128, Answer::Refused(Refusal::Depth)))?;
+    check(both_answer(&dense, &sparse, 256, Answer::Done))?;
+    check(both_answer(&dense, &sparse, 257, Answer::Refused(Refusal::NoLevel)))
 }
 
 #[test]
@@ -140,14 +142,15 @@ fn rows_to_the_full_space(rt: LibcRuntime) -> Result<(), Fail> {
     calls.push(offer(difference(1, 0), -6))?;
     calls.push(Call::Pop)?;
     calls.push(offer(difference(1, 0), -6))?;
-    let history = over_dense(heap, calls.as_slice())?;
-    check(answer_at(&history, 1024) == Some(Answer::Done))?;
-    check(answer_at(&history, 1025) == Some(Answer::Refused(Refusal::Space)))?;
-    check(answer_at(&history, 1026) == Some(Answer::Refused(Refusal::Reach)))?;
-    check(answer_at(&history, 1027) == Some(Answer::Refused(Refusal::Space)))?;
-    check(answer_at(&history, 1028) == Some(Answer::Done))?;
-    check(answer_at(&history, 1029) == Some(Answer::Done))?;
-    check_eq(history.rows, 1)
+    let dense = dense_first(heap, calls.as_slice())?;
+    let sparse = sparse_first(heap, calls.as_slice())?;
+    check(both_answer(&dense, &sparse, 1024, Answer::Done))?;
+    check(both_answer(&dense, &sparse, 1025, Answer::Refused(Refusal::Space)))?;
+    check(both_answer(&dense, &sparse, 1026, Answer::Refused(Refusal::Reach)))?;
+    check(both_answer(&dense, &sparse, 1027, Answer::Refused(Refusal::Space)))?;
+    check(both_answer(&dense, &sparse, 1028, Answer::Done))?;
+    check(both_answer(&dense, &sparse, 1029, Answer::Done))?;
+    check(dense.rows == 1 && sparse.rows == 1)
 }
 
 #[test]
@@ -165,4 +168,35 @@ fn an_engine_starts_over_an_empty_theory_only(rt: LibcRuntime) -> Result<(), Fai
             check_eq(unstarted.theory.row_count(), 1)
         }
     }
+}
+
+// A thousand levels opened and closed, with rows between: the sparse bottom then answers as a new engine does.
+#[test]
+fn many_levels_leave_nothing_behind(rt: LibcRuntime) -> Result<(), Fail> {
+    let heap = rt.alloc();
+    let mut calls = Vec::new(heap);
+    calls.push(offer(difference(0, 1), 3))?;
+    for _ in 0..1000 {
+        calls.push(Call::Push)?;
+        calls.push(offer(difference(1, 2), -4_000_000))?;
+        calls.push(offer(difference(2, 3), -4_000_000))?;
+        calls.push(Call::Pop)?;
+    }
+    calls.push(offer(difference(1, 2), -5))?;
+    calls.push(Call::Tightest(difference(0, 2)))?;
+    let dense = dense_first(heap, calls.as_slice())?;
+    let sparse = sparse_first(heap, calls.as_slice())?;
+    check(both_answer(&dense, &sparse, 4002, Answer::Value(Some(-2))))?;
+    check(sparse.taken == 2 && sparse.first == sparse.second)
+}
+
+// Slices that are one element short are refused, whichever they are.
+#[test]
+fn short_memory_is_refused() -> Result<(), Fail> {
+    check(memory_is_enough(1024, 128, 128, 64, 64))?;
+    check(!memory_is_enough(1023, 128, 128, 64, 64))?;
+    check(!memory_is_enough(1024, 127, 128, 64, 64))?;
+    check(!memory_is_enough(1024, 128, 127, 64, 64))?;
+    check(!memory_is_enough(1024, 128, 128, 63, 64))?;
+    check(!memory_is_enough(1024, 128, 128, 64, 63))
 }

@@ -1,4 +1,5 @@
-// Reads the lines of a script: the tower of theories, bottom first, and then engine calls.
+// Reads the lines of a script: the towers of theories that the engines stand over, and the engine calls.
+use crate::tower::Tower;
 use histories::Call;
 use std::alloc::AllocError;
 use std::alloc::Global;
@@ -7,22 +8,30 @@ use theory::row::Row;
 use theory::row::Side;
 use theory::row::Sign;
 
-// The theories that a script may name.
-#[derive(Clone, Copy)]
-pub enum Tower {
-    Dense,
-}
-
-// A line that is answered: a call, by its place among the calls, or one that is none.
+// A line that is answered: a call, by its place among the calls, or one that says nothing known.
 #[derive(Clone, Copy)]
 pub enum Line {
     Unreadable,
     Call(usize),
 }
 
+// What a line says that is neither empty nor a comment.
+#[derive(Clone, Copy)]
+enum Word {
+    Over(Tower),
+    Against(Tower),
+    Call(Call),
+}
+
+#[derive(Clone, Copy)]
+pub struct Towers {
+    pub first: Tower,
+    pub second: Tower,
+}
+
 #[derive(Drop)]
 pub struct Script {
-    pub tower: Option<Tower>,
+    pub towers: Option<Towers>,
     pub lines: Vec<Line>,
     pub calls: Vec<Call>,
 }
@@ -59,27 +68,21 @@ fn read_row(words: &mut SplitWhitespace) -> Option<Row> {
     Some(Row { side, c })
 }
 
-fn read_call(line: &str) -> Option<Call> {
+fn read_line(line: &str) -> Option<Word> {
     let mut words = line.split_whitespace();
-    let call = match words.next()? {
-        "push" => Call::Push,
-        "pop" => Call::Pop,
-        "offer" => Call::Offer(read_row(&mut words)?),
-        "tightest" => Call::Tightest(read_side(&mut words)?),
-        "row" => Call::RowAt(read_unsigned(&mut words)?),
+    let word = match words.next()? {
+        "over" => Word::Over(Tower::read(&mut words)?),
+        "against" => Word::Against(Tower::read(&mut words)?),
+        "push" => Word::Call(Call::Push),
+        "pop" => Word::Call(Call::Pop),
+        "offer" => Word::Call(Call::Offer(read_row(&mut words)?)),
+        "tightest" => Word::Call(Call::Tightest(read_side(&mut words)?)),
+        "row" => Word::Call(Call::RowAt(read_unsigned(&mut words)?)),
         _ => return None,
     };
     match words.next() {
-        None => Some(call),
+        None => Some(word),
         Some(_) => None,
-    }
-}
-
-fn read_tower(line: &str) -> Option<Tower> {
-    let mut words = line.split_whitespace();
-    match (words.next()?, words.next()?, words.next()) {
-        ("over", "dense", None) => Some(Tower::Dense),
-        _ => None,
     }
 }
 
@@ -95,7 +98,7 @@ impl Script {
     // A script whose first line names no tower has none, and all its lines are unreadable.
     pub fn read(heap: Global, text: &str) -> Result<Script, AllocError> {
         let mut script = Script {
-            tower: None,
+            towers: None,
             lines: Vec::new(heap),
             calls: Vec::new(heap),
         };
@@ -104,24 +107,28 @@ impl Script {
             if says_nothing(line) {
                 continue;
             }
-            if first {
-                first = false;
-                script.tower = read_tower(line);
-                if script.tower.is_some() {
-                    continue;
-                }
+            match (first, read_line(line)) {
+                (true, Some(Word::Over(tower))) => script.towers = Some(Towers {
+                    first: tower,
+                    second: tower,
+                }),
+                (_, word) => script.add(word)?,
             }
-            script.add(read_call(line))?;
+            first = false;
         }
         Ok(script)
     }
 
-    fn add(&mut self, call: Option<Call>) -> Result<(), AllocError> {
-        match (self.tower, call) {
-            (Some(_), Some(call)) => {
+    fn add(&mut self, word: Option<Word>) -> Result<(), AllocError> {
+        match (self.towers, word) {
+            (Some(_), Some(Word::Call(call))) => {
                 self.lines.push(Line::Call(self.calls.len()))?;
                 self.calls.push(call)?;
             }
+            (Some(towers), Some(Word::Against(second))) => self.towers = Some(Towers {
+                first: towers.first,
+                second,
+            }),
             _ => self.lines.push(Line::Unreadable)?,
         }
         Ok(())

@@ -1,0 +1,15 @@
+pub mod Chains
+pub mod Graphs
+pub mod Offers
+pub mod Scans
+pub mod Counts
+pub mod Walks
+pub mod Sums
+pub mod Runs
+pub mod Lines
+pub mod Rows
+pub mod Greatest
+pub mod Repairs
+pub mod Repairing
+pub mod States
+pub mod Accepts

@@ -1,0 +1,5 @@
+pub mod Edges
+pub mod Points
+pub mod Distances
+pub mod Room
+pub mod State
