@@ -1,5 +1,7 @@
 // Bounds that may be absent: the lesser of two, and half of one. The tables of such bounds and their mathematics stand in
 // specs/ and proofs/, over numbers alone. Assumes nothing.
+#![tactic(auto)]
+
 ghost use Rattle.std.specs.Prelude.{◌≡◌};
 ghost use Rattle.bounds.specs.Tables.{least_of, half};
 

@@ -7,6 +7,8 @@
 // 4. A level keeps the number of rows and the matrix of the time it opened; closing it puts both back.
 //
 // All memory is taken at the start: no later call allocates.
+#![tactic(auto)]
+
 ghost use Rattle.std.specs.Prelude.{◌≡◌, ◌<◌, [], ◌∷◌, ◌++◌, length, IfOk, None};
 ghost use Rattle.theory.specs.Meaning.{empty, with_row, with_level, without_level};
 ghost use Rattle.theory.specs.Rows.{Feasible, Greatest};

@@ -1,5 +1,7 @@
 // Rows that bound the difference of two unknowns: the sizes of a bottom, which takes no other rows, and the two ends of a
 // side. The tables of the greatest differences of such rows, and what is proved of them, stand in specs/ and proofs/.
+#![tactic(auto)]
+
 ghost use Rattle.std.specs.Prelude.{◌≡◌};
 ghost use Rattle.differences.specs.Sides.{first, second};
 

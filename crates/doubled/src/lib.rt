@@ -12,6 +12,8 @@
 //
 // Unknowns, space and reach are half of those below, rounded down, and the depth is the same. All memory is taken at the
 // start: no later call allocates.
+#![tactic(auto)]
+
 ghost use Rattle.std.specs.Prelude.{◌≡◌, ◌<◌, [], ◌∷◌, ◌++◌, length, None};
 ghost use Rattle.theory.specs.Calls.{PointChecked};
 ghost use Rattle.theory.specs.Meaning.{with_row};

@@ -1,5 +1,7 @@
 // The engine: it stands over any theory, keeps the standing rows and open levels itself, and after each call the theory below means them.
 // `Agrees` says so; `new` ensures it, and every method needs and keeps it.
+#![tactic(auto)]
+
 ghost use Rattle.std.specs.Prelude.{◌≡◌};
 ghost use Rattle.theory.specs.Calls.{Put, Push, Pop, Tightest, RowAt};
 ghost use Rattle.engine.specs.Engines.{Agrees, own, Started};

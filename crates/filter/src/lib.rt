@@ -5,6 +5,8 @@
 // 3. The rows below are never more than those here, so of an accepted left side only a contradiction is left to refuse below.
 //
 // Its sizes are those of the theory below. All memory is taken at the start: no later call allocates.
+#![tactic(auto)]
+
 ghost use Rattle.std.specs.Prelude.{◌≡◌, None};
 ghost use Rattle.theory.specs.Calls.{put_fault};
 ghost use Rattle.filter.specs.Filters.{Passed, Sound, own, Started};

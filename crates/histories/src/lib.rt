@@ -1,6 +1,8 @@
 // Histories of engine calls. `run` makes a list of calls on an engine over one theory, tells a second engine over
 // another theory of the same sizes what then stands, and makes one further call on both.
 // Its contract is the law that no answer depends on more than the standing rows and open levels.
+#![tactic(auto)]
+
 ghost use Rattle.std.specs.Prelude.{◌≡◌, ◌≤◌, [], ◌++◌, map, length, IfOk, vec_capacity, MatchResult, OnOk};
 ghost use Rattle.engine.specs.Engines.{Agrees, own};
 ghost use Rattle.histories.specs.Steps.{Step, done_answer};

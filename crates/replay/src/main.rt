@@ -1,5 +1,7 @@
 // Replays a list of engine calls from standard input, one to a line, and answers each on standard output; then shows that
 // a second engine, told what stands, answers alike. docs/FORMAT.md has the lines.
+#![tactic(auto)]
+
 mod report;
 mod script;
 mod tower;

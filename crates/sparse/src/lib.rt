@@ -10,6 +10,8 @@
 //    newest first. So the potentials lie between −65 · reach · rows and 0 over any history.
 //
 // The memory is lent, and no call allocates.
+#![tactic(auto)]
+
 ghost use Rattle.std.specs.Prelude.{◌≡◌, ◌<◌, length, None};
 ghost use Rattle.theory.specs.Meaning.{empty, with_level, without_level};
 ghost use Rattle.theory.specs.Rows.{Greatest};

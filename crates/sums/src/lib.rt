@@ -1,5 +1,7 @@
 // Left sides as one literal or as the difference of two, and rows as differences over twice as many unknowns, where 2k stands
 // for x(k) and 2k + 1 for −x(k). Assumes nothing. The proofs say what the greatest differences of those are for the rows.
+#![tactic(auto)]
+
 ghost use Rattle.std.specs.Prelude.{◌≡◌, ◌<◌};
 ghost use Rattle.bounds.specs.Literals.{index, mirror};
 ghost use Rattle.bounds.specs.Doubling.{code};

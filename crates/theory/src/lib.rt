@@ -1,6 +1,8 @@
 // Rows over whole numbers, what a theory of them means, and the trait that every theory meets.
 // Code above a theory uses nothing else of it. A theory's values are told apart by their meaning alone; `sound` is what
 // the methods need of a value and keep, and every constructor ensures it.
+#![tactic(auto)]
+
 ghost use Rattle.std.specs.Prelude.{◌≡◌, length, IfOk};
 ghost use Rattle.theory.specs.Meaning.{Meaning, Sane, empty};
 ghost use Rattle.theory.specs.declared.sizes.Sizes.{Sizes as TheSizes};

@@ -1,5 +1,7 @@
 // The towers of theories that the programs know: a bottom, and the layers over it. `over` hands what starts a tower to whoever
 // visits it, and lends the sparse bottom its memory for as long as the visit takes.
+#![tactic(auto)]
+
 use dense::OverDense;
 use doubled::OverDoubled;
 use filter::OverFilter;

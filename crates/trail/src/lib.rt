@@ -2,6 +2,8 @@
 // takes back the entries that came since it opened. The memory is lent: two slices that the maker chooses long enough.
 // Contracts speak of a trail by the list of its entries and by the list of its levels, oldest first, each the number of
 // entries when it opened. No call allocates; each takes a fixed number of steps.
+#![tactic(auto)]
+
 ghost use Rattle.std.specs.Prelude.{◌≡◌, ℕ, ◌+◌, ◌-◌, ◌^◌, ◌<◌, ◌≤◌, [], ◌∷◌, ◌++◌, length, take, slice_index_or};
 ghost use Rattle.trail.specs.Trails.{items, levels, newest, room, level_room, Sound, Roomy};
 

@@ -1,5 +1,7 @@
 // Tries the bottoms: each against brute force on random calls, written to standard output, and its speed, written to
 // standard error.
+#![tactic(auto)]
+
 mod bottoms;
 mod compare;
 mod dice;

@@ -1,5 +1,7 @@
 // Tries every tower: its answers to random calls against a plain reference, written to standard output, and the speed of
 // some, written to standard error.
+#![tactic(auto)]
+
 mod dice;
 mod lines;
 mod measure;
