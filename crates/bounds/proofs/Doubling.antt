@@ -3,7 +3,7 @@ use Rattle.std.proofs.Common.{◌≡◌, ℕ, ◌+◌, ◌*◌, ◌/◌, ◌%◌
 use Rattle.std.proofs.lemmas.Int.{ints}
 use Rattle.std.proofs.lemmas.Bool.{eq-eqb, ne_eqb, cond-true, cond-false}
 use Rattle.bounds.specs.Literals.{Point, Literal, plus, minus, index, mirror, at}
-use Rattle.bounds.specs.Tables.{AtMost, Allows, half}
+use Rattle.bounds.specs.Tables.{AtMost, Allows}
 use Rattle.bounds.specs.Doubling.{code, literal, spread, half_of}
 use Rattle.bounds.proofs.Signs.{half_is}
 

@@ -1,11 +1,10 @@
 -- Rows that bound differences and have a point have a table of their greatest differences: it is made row by row. Assumes nothing.
-use Rattle.std.proofs.Common.{◌≡◌, ℕ, cond, eqb, ◌⊎◌, List, [], ◌∷◌, ◌++◌, ℤ, pos, ◌+ℤ◌, ◌-ℤ◌, ◌≤ℤ◌, Some, None, refl, subst, ⊎_elim, append_assoc, append-nil, arith}
+use Rattle.std.proofs.Common.{◌≡◌, ℕ, cond, eqb, List, [], ◌∷◌, ◌++◌, ℤ, pos, ◌+ℤ◌, ◌-ℤ◌, ◌≤ℤ◌, Some, None, refl, subst, ⊎_elim, append_assoc, append-nil, arith}
 use Rattle.std.specs.List.{AllByRecursion as All}
 use Rattle.std.proofs.lemmas.Int.{ints}
 use Rattle.std.proofs.lemmas.Bool.{cases_eq, eq-eqb, ne_eqb}
 use Rattle.theory.specs.declared.row.Row.{Row}
 use Rattle.theory.specs.Rows.{Point, Meets, Feasible}
-use Rattle.bounds.specs.Tables as tables
 use Rattle.bounds.specs.Tables.{Differences, AtMost, Allows, Metric}
 use Rattle.differences.specs.Sides.{Difference}
 use Rattle.differences.specs.Tabled.{Tabled}

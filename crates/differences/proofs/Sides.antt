@@ -1,11 +1,10 @@
 -- A side that passes a bottom's rules is the difference of its two ends. Assumes nothing.
-use Rattle.std.proofs.Common.{◌≡◌, ℕ, ◌<◌, ◌≤◌, ◌-ℤ◌, nat_abs, None, arith}
+use Rattle.std.proofs.Common.{◌≡◌, ℕ, ◌≤◌, nat_abs, None, arith}
 use Rattle.std.proofs.lemmas.Int.{ints}
 use Rattle.theory.specs.declared.row.Sign.{Sign}
 use Rattle.theory.specs.declared.row.Sign.TheVariants.{Zero, Plus, Minus}
 use Rattle.theory.specs.declared.row.Side.{Side}
 use Rattle.theory.specs.declared.row.Row.{Row}
-use Rattle.theory.specs.Rows.{Point, value}
 use Rattle.theory.specs.Rules.{side_fault}
 use Rattle.differences.specs.Sides.{bottom_sizes, Fair, Ends, Difference}
 

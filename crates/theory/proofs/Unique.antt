@@ -1,12 +1,11 @@
 -- Each relation between a call, its answer and what it leaves holds of one answer only, and of one meaning after. Assumes nothing.
-use Rattle.std.proofs.Common.{◌≡◌, ℕ, ◌<◌, List, [], ◌∷◌, ◌++◌, length, get_or, ℤ, pos, ◌+ℤ◌, ◌≤ℤ◌, Some, None, Ok, Err, Option, Result, sym, refl, ap, ◌∙◌, subst, arith}
+use Rattle.std.proofs.Common.{◌≡◌, ℕ, List, ℤ, pos, ◌+ℤ◌, Some, None, Ok, Err, Option, Result, sym, refl, ap, ◌∙◌, arith}
 use Rattle.std.proofs.lemmas.Int.{ints}
 use Rattle.std.proofs.lemmas.List.{get_or_read}
 use Rattle.theory.specs.declared.refusal.Refusal.{Refusal}
 use Rattle.theory.specs.declared.row.Row.{Row}
 use Rattle.theory.specs.declared.row.Side.{Side}
 use Rattle.theory.specs.Rows.{Greatest}
-use Rattle.theory.specs.Rules.{side_fault}
 use Rattle.theory.specs.Meaning.{Meaning}
 use Rattle.theory.specs.Calls.{put_fault, RefusedBy, Put, Push, Pop, Tightest, RowAt}
 

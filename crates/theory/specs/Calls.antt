@@ -1,6 +1,6 @@
 -- What each call of a theory answers and leaves: a relation between the meaning before, the arguments, the answer and the meaning after. Assumes nothing.
 -- A refusal leaves the meaning as it was, and so does a question.
-use Rattle.std.specs.Prelude.{◌≡◌, ℕ, ◌<◌, ◌≤◌, cond, List, [], ◌∷◌, ◌++◌, length, ℤ, Some, None, Ok, Err, Option, Result, ◌≢◌, nat_le, slice_index_or}
+use Rattle.std.specs.Prelude.{◌≡◌, ℕ, ◌<◌, ◌≤◌, List, [], ◌∷◌, ◌++◌, length, ℤ, Some, None, Ok, Err, Option, Result, ◌≢◌, nat_le, slice_index_or}
 use Rattle.theory.specs.declared.refusal.Refusal.{Refusal}
 use Rattle.theory.specs.declared.refusal.Refusal.TheVariants as refusal
 use Rattle.theory.specs.declared.row.Row.{Row}

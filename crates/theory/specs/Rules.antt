@@ -1,6 +1,6 @@
 -- The rules that a left side and a row have to pass by themselves, and the limits of the sizes. Assumes nothing.
 -- Each rule is a test that is true where the rule is broken; side_fault and row_fault name the first broken one.
-use Rattle.std.specs.Prelude.{ℕ, ◌≤◌, Bool, true, false, cond, not, ◌&&◌, ◌||◌, ℤ, Some, None, Ok, Err, Option, Result, ◌==◌, nat_le, nat_lt, unsigned_abs}
+use Rattle.std.specs.Prelude.{ℕ, ◌≤◌, Bool, true, false, cond, not, ◌&&◌, ◌||◌, Some, None, Ok, Err, Option, Result, ◌==◌, nat_le, nat_lt, unsigned_abs}
 use Rattle.theory.specs.declared.refusal.Refusal.{Refusal}
 use Rattle.theory.specs.declared.refusal.Refusal.TheVariants as refusal
 use Rattle.theory.specs.declared.row.Sign.{Sign}

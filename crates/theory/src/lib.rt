@@ -60,8 +60,8 @@ pub trait Theory {
 
 // The check before a start over a theory: refused unless it is empty.
 pub fn check_empty<T: Theory>(theory: &T) -> Result<(), Refusal>
-    requires { sound theory.now }
-    ensures { EmptyChecked (meaning theory.now) result }
+    requires { T.sound theory.now }
+    ensures { EmptyChecked (T.meaning theory.now) result }
 {
     if theory.row_count() != 0 || theory.level_count() != 0 {
         return Err(Refusal::Unfit);

@@ -16,12 +16,12 @@ relax-requires c =
 pub returns : goal.returns
 returns c =
     let d = c.args.self.now in
-    let e : Dense = record { rows = c.push-reserved.new.self; levels = d.levels; matrix = c.relax.new.self } in
+    let e : Dense = record { rows = c.push_reserved.new.self; levels = d.levels; matrix = c.relax.new.self } in
     let room : vec_len d.rows < 1024 = omega (arith, c.requires.room, d.rows.ok.0) in
-    let items = c.push-reserved.ensures.items in
+    let items = c.push_reserved.ensures.items in
     let fits : SFits w64 c.args.row.c = search rules in
     let relaxed = simp (to_z-of_z, c.ends-u.ensures.0, c.ends-u.ensures.1) at c.relax.ensures in
     record {
-      kept = accept_sound d e c.requires.sound c.args.row c.requires.fair refl items c.requires.point relaxed room c.push-reserved.ensures.capacity;
+      kept = accept_sound d e c.requires.sound c.args.row c.requires.fair refl items c.requires.point relaxed room c.push_reserved.ensures.capacity;
       after = accept_meaning d e c.requires.sound c.args.row c.requires.fair refl items;
     }
