@@ -2,7 +2,7 @@
 -- of_line, entry: what stands at a place.     LineHolds, Holds: what stands at every place.
 -- Small: all bounds of a matrix lie near 0.
 -- no-bounds: the matrix of no rows.           line-with-row: a line after one more row.
-use Rattle.std.specs.Prelude.{◌≡◌, ℕ, ◌<◌, ◌≤◌, cond, List, [], ℤ, pos, Some, None, Option, ◌==◌, slice_index_or}
+use Rattle.std.specs.Prelude.{◌≡◌, ℕ, ◌<◌, cond, List, [], ℤ, pos, Some, None, Option, ◌==◌, slice_index_or}
 use Rattle.bounds.specs.Tables.{Differences, least_of, sum_of}
 use Rattle.differences.specs.Tabled.{Near}
 use Rattle.dense.specs.declared.matrix.Matrix.{Matrix}

@@ -29,7 +29,8 @@ impl Matrix {
     }
 
     pub fn at(&self, i: usize, j: usize) -> Option<i64>
-        requires { (i < 64) × (j < 64) }
+        requires line { i < 64 }
+        requires place { j < 64 }
         ensures { result ≡ entry self.now i j }
     {
         self.lines[i][j]
@@ -37,7 +38,9 @@ impl Matrix {
 
     // One more row, x(u) − x(v) ≤ c: what it shortens are the chains that come to u, go over the row and on from v.
     pub fn relax(&mut self, u: usize, v: usize, c: i64)
-        requires u_bound { (u < 64) × ((v < 64) × (unsigned_abs c ≤ 4000000)) }
+        requires from { u < 64 }
+        requires to { v < 64 }
+        requires near { unsigned_abs c ≤ 4000000 }
         requires small { Small self.old }
         ensures { Holds self.new (with_row (entry self.old) u v c) }
     {
@@ -50,9 +53,10 @@ impl Matrix {
 
 // The line of one unknown. It stays as it is where no chain comes to u.
 fn relax_line(line: &mut Line, u: usize, c: i64, onward: &Line)
-    requires u_bound { (u < 64) × (unsigned_abs c ≤ 4000000) }
-    requires near { Near far (of_line line.old u) }
-    requires by_index { (j : ℕ) → j < 64 → Near far (of_line onward.now j) }
+    requires from { u < 64 }
+    requires near { unsigned_abs c ≤ 4000000 }
+    requires coming { Near far (of_line line.old u) }
+    requires going { (j : ℕ) → j < 64 → Near far (of_line onward.now j) }
     ensures { LineHolds line.new (line_with_row line.old u c onward.now) }
 {
     let through = sum(line[u], Some(c));
@@ -65,7 +69,8 @@ fn relax_line(line: &mut Line, u: usize, c: i64, onward: &Line)
 }
 
 fn sum(a: Option<i64>, b: Option<i64>) -> Option<i64>
-    requires { (Near further a) × (Near far b) }
+    requires first { Near further a }
+    requires second { Near far b }
     ensures { result ≡ sum_of a b }
 {
     match (a, b) {

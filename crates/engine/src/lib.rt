@@ -38,8 +38,8 @@ impl<T: Theory> Engine<T> {
     // Starts over an empty theory only; otherwise, and for want of memory, the theory is handed back as it was.
     // All memory is asked for here: space for the rows and levels that the sizes allow.
     pub fn new(heap: Global, theory: T) -> Result<Engine<T>, Unstarted<T>>
-        requires { sound theory }
-        ensures { Started sound meaning theory result }
+        requires { T.sound theory }
+        ensures { Started T.sound T.meaning theory result }
     {
         if let Err(refusal) = check_empty(&theory) {
             return Err(Unstarted {
@@ -69,8 +69,8 @@ impl<T: Theory> Engine<T> {
     }
 
     pub fn offer(&mut self, row: Row) -> Result<(), Refusal>
-        requires { Agrees sound meaning self.old }
-        ensures kept { Agrees sound meaning self.new }
+        requires { Agrees T.sound T.meaning self.old }
+        ensures kept { Agrees T.sound T.meaning self.new }
         ensures answers { Put (own self.old) row result (own self.new) }
     {
         self.theory.put(row)?;
@@ -79,8 +79,8 @@ impl<T: Theory> Engine<T> {
     }
 
     pub fn push(&mut self) -> Result<(), Refusal>
-        requires { Agrees sound meaning self.old }
-        ensures kept { Agrees sound meaning self.new }
+        requires { Agrees T.sound T.meaning self.old }
+        ensures kept { Agrees T.sound T.meaning self.new }
         ensures answers { Push (own self.old) result (own self.new) }
     {
         self.theory.push()?;
@@ -89,8 +89,8 @@ impl<T: Theory> Engine<T> {
     }
 
     pub fn pop(&mut self) -> Result<(), Refusal>
-        requires { Agrees sound meaning self.old }
-        ensures kept { Agrees sound meaning self.new }
+        requires { Agrees T.sound T.meaning self.old }
+        ensures kept { Agrees T.sound T.meaning self.new }
         ensures answers { Pop (own self.old) result (own self.new) }
     {
         self.theory.pop()?;
@@ -102,8 +102,8 @@ impl<T: Theory> Engine<T> {
     }
 
     pub fn tightest(&mut self, side: Side) -> Result<Option<i64>, Refusal>
-        requires { Agrees sound meaning self.old }
-        ensures kept { Agrees sound meaning self.new }
+        requires { Agrees T.sound T.meaning self.old }
+        ensures kept { Agrees T.sound T.meaning self.new }
         ensures answers { Tightest (own self.old) side result (own self.new) }
     {
         self.theory.tightest(side)

@@ -8,10 +8,13 @@ use Rattle.dense.proofs.Dense.accept.Goals as goal
 pub relax-requires : goal.relax-requires
 relax-requires c =
     let e = ends_of c.args.row.side (fair_side c.args.row c.requires.fair) in
-    let fits : SFits w64 c.args.row.c = search rules in (
-      (omega (arith, e.first_in, c.ends-u.ensures.0), (omega (arith, e.second_in, c.ends-u.ensures.1), simp to_z-of_z (fair_near c.args.row c.requires.fair))),
-      sound_near c.args.self.now c.requires.sound,
-    )
+    let fits : SFits w64 c.args.row.c = search rules in
+    record {
+      from = omega (arith, e.first_in, c.ends-u.ensures.0);
+      to = omega (arith, e.second_in, c.ends-u.ensures.1);
+      near = simp to_z-of_z (fair_near c.args.row c.requires.fair);
+      small = sound_near c.args.self.now c.requires.sound;
+    }
 
 pub returns : goal.returns
 returns c =
