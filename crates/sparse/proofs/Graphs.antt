@@ -2,14 +2,13 @@
 use Rattle.std.proofs.Common.{◌≡◌, ℕ, ◌+◌, ◌-◌, ◌<◌, ◌≤◌, List, [], ◌∷◌, ◌++◌, length, get_or, take, set, nat_abs, sym, refl, ap, ◌∙◌, subst, arith}
 use Rattle.std.specs.List.{AllWithin}
 use Rattle.std.proofs.lemmas.List.{length_push, length-set, get_or_push, get_or_append_left, take_at, take-take, length-take-le}
-use Rattle.std.proofs.lemmas.List.Elements.{AllWithin-push, AllWithin-upto}
-use Rattle.theory.specs.declared.row.Row.{Row}
+use Rattle.std.proofs.lemmas.List.Elements.{AllWithin-push}
 use Rattle.trail.specs.Trails as trails
 use Rattle.trail.specs.Trails.{items, levels, room, level_room, Roomy}
 use Rattle.sparse.specs.declared.graph.Edge.{Edge}
 use Rattle.sparse.specs.declared.graph.Graph.{Graph}
 use Rattle.differences.specs.Sides.{Fair}
-use Rattle.sparse.specs.Edges.{source, target, Link, Chained, Linked, edges_of, levels_of}
+use Rattle.sparse.specs.Edges.{source, target, Link, Linked, edges_of, levels_of}
 use Rattle.differences.proofs.Sides.{ends_of, fair_side, fair_near}
 use Rattle.sparse.proofs.Chains.{chained_add, chained_drop}
 

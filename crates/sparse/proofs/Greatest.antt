@@ -1,19 +1,20 @@
 -- The values of a search without a limit are the greatest differences. Assumes nothing.
-use Rattle.std.proofs.Common.{◌≡◌, ℕ, ◌+◌, ◌*◌, ◌<◌, ◌≤◌, cond, eqb, ◌⊎◌, List, length, get_or, ℤ, pos, negsuc, ◌+ℤ◌, ◌-ℤ◌, neg_ℤ, nat_abs, ◌≤ℤ◌, ◌<ℤ◌, Some, None, sym, refl, ap, ◌∙◌, subst, inl, inr, ⊎_elim, arith}
-use Rattle.std.specs.List.{AllWithin, AllByRecursion as All}
+use Rattle.std.proofs.Common.{◌≡◌, ℕ, ◌+◌, ◌*◌, ◌<◌, ◌≤◌, cond, eqb, ◌⊎◌, List, length, get_or, ℤ, pos, negsuc, ◌+ℤ◌, ◌-ℤ◌, neg_ℤ, nat_abs, ◌≤ℤ◌, Some, None, ap, ◌∙◌, inl, inr, ⊎_elim, arith}
+use Rattle.std.specs.List.{AllWithin}
 use Rattle.std.proofs.lemmas.Int.{ints}
 use Rattle.std.proofs.lemmas.Bool.{cases_eq, eq-eqb, ne_eqb, cond-true, cond-false}
 use Rattle.theory.specs.declared.row.Side.{Side}
-use Rattle.theory.specs.Rows.{Point, Meets, Greatest, value}
+use Rattle.theory.specs.Rows.{Point, Greatest, value}
 use Rattle.theory.specs.Rules.{side_fault}
 use Rattle.sparse.specs.declared.graph.Edge.{Edge}
 use Rattle.differences.specs.Sides.{bottom_sizes, first, second, Fair}
 use Rattle.sparse.specs.Edges.{source, target, Met, Keeps, rows_in}
 use Rattle.sparse.specs.Points.{SmallPoint, Holds}
-use Rattle.sparse.specs.Distances.{key, Relaxed, Found}
+use Rattle.sparse.specs.Distances.{Found}
 use Rattle.differences.proofs.Sides.{ends_of, fair_near}
 use Rattle.sparse.proofs.Graphs.{fair_ends}
-use Rattle.sparse.proofs.Rows.{keeps_from_all, all_from_keeps}
+use Rattle.sparse.specs.Sanity.{all_from_keeps}
+use Rattle.sparse.proofs.Rows.{keeps_from_all}
 
 -- a number within n of 0
 pub near : (z : ℤ) (n : ℕ) → nat_abs z ≤ n → (z ≤ℤ pos n) × (neg_ℤ (pos n) ≤ℤ z)

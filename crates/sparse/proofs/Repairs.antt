@@ -1,5 +1,5 @@
 -- What a new edge makes of the potentials. Assumes nothing.
-use Rattle.std.proofs.Common.{◌≡◌, ℕ, ◌+◌, ◌*◌, ◌<◌, ◌≤◌, ◌⊎◌, List, [], ◌∷◌, ◌++◌, length, get_or, ℤ, pos, ◌+ℤ◌, ◌-ℤ◌, neg_ℤ, nat_abs, ◌≤ℤ◌, ◌<ℤ◌, sym, refl, ap, ◌∙◌, subst, inl, inr, ⊎_elim, arith}
+use Rattle.std.proofs.Common.{◌≡◌, ℕ, ◌<◌, ◌≤◌, List, [], ◌∷◌, ◌++◌, length, get_or, ℤ, ◌+ℤ◌, neg_ℤ, nat_abs, ◌≤ℤ◌, sym, ap, ◌∙◌, ⊎_elim, arith}
 use Rattle.std.specs.List.{AllWithin}
 use Rattle.std.proofs.lemmas.List.{length_push}
 use Rattle.std.proofs.lemmas.List.Elements.{AllWithin-push}
@@ -11,7 +11,7 @@ use Rattle.sparse.specs.declared.graph.Edge.{Edge}
 use Rattle.differences.specs.Sides.{first, second}
 use Rattle.sparse.specs.Edges.{source, target, Met, Keeps}
 use Rattle.sparse.specs.Points.{Holds}
-use Rattle.sparse.specs.Distances.{key, Found, Lowered}
+use Rattle.sparse.specs.Distances.{Found, Lowered}
 use Rattle.sparse.proofs.Greatest.{near}
 
 -- the edge e leads from s to t and has the length c

@@ -1,28 +1,21 @@
 -- A point meets the rows of fair edges exactly where it keeps the edges. Assumes nothing.
-use Rattle.std.proofs.Common.{◌≡◌, ℕ, ◌<◌, ◌≤◌, List, [], ◌∷◌, ◌++◌, map, length, get_or, ℤ, ◌+ℤ◌, ◌-ℤ◌, ◌≤ℤ◌, sym, refl, ap, ◌∙◌, subst, arith}
+use Rattle.std.proofs.Common.{List, length, get_or, subst, arith}
 use Rattle.std.specs.List.{AllWithin, AllByRecursion as All}
-use Rattle.std.proofs.lemmas.List.{length-map, get_or-map, map_push}
-use Rattle.std.proofs.ByRecursion.{All-get_or, All-map, all_from_every}
+use Rattle.std.proofs.lemmas.List.{length-map, get_or-map}
+use Rattle.std.proofs.ByRecursion.{All-get_or}
 use Rattle.std.proofs.lemmas.Int.{ints}
-use Rattle.theory.specs.declared.row.Row.{Row}
 use Rattle.theory.specs.Rows.{Point, Meets}
 use Rattle.sparse.specs.declared.graph.Edge.{Edge}
 use Rattle.differences.specs.Sides.{Fair}
-use Rattle.sparse.specs.Edges.{source, target, Met, Keeps, rows_in}
+use Rattle.sparse.specs.Edges.{Met, Keeps, rows_in}
 use Rattle.differences.proofs.Sides.{ends_of, fair_side}
 
 module _ (x : Point) (e : Edge) (fair : Fair e.row) where
   pub met_from_meets : Meets x e.row → Met x e
   met_from_meets h = let is = (ends_of e.row.side (fair_side e.row fair)).is x in let k = rw is at h in omega (arith, ints)
 
-  pub meets_from_met : Met x e → Meets x e.row
-  meets_from_met h = let is = (ends_of e.row.side (fair_side e.row fair)).is x in rw is (omega (arith, ints))
-
 module _ (x : Point) (es : List Edge) (fair : AllWithin (λ e. Fair e.row) es 0 (length es)) where
   pub keeps_from_all : All (Meets x) (rows_in es) → Keeps x es
   keeps_from_all h k d low high =
       let at = get_or-map (λ (e : Edge). e.row) es k d d.row high in
       met_from_meets x (get_or es k d) (fair k d low high) (subst (Meets x) at (All-get_or (Meets x) (rows_in es) k d.row (omega (arith, length-map es (λ (e : Edge). e.row))) h))
-
-  pub all_from_keeps : Keeps x es → All (Meets x) (rows_in es)
-  all_from_keeps h = All-map (Meets x) (λ (e : Edge). e.row) es (all_from_every (λ e. Meets x e.row) es (λ k d low high. meets_from_met x (get_or es k d) (fair k d low high) (h k d low high)))

@@ -1,35 +1,23 @@
 -- What a step makes of a sound state: it stays sound, and its meaning changes as the step says. Assumes nothing.
-use Rattle.std.proofs.Common.{◌≡◌, ℕ, ◌+◌, ◌-◌, ◌<◌, ◌≤◌, List, [], ◌∷◌, ◌++◌, map, length, get_or, take, sym, refl, ap, ◌∙◌, subst, ⊎_elim, arith}
+use Rattle.std.proofs.Common.{◌≡◌, ℕ, ◌-◌, ◌<◌, ◌≤◌, List, [], ◌∷◌, ◌++◌, length, get_or, take, sym, refl, ap, ◌∙◌, subst, ⊎_elim, arith}
 use Rattle.std.specs.List.{AllWithin, AllByRecursion as All}
-use Rattle.std.proofs.lemmas.List.Elements.{AllWithin-push}
 use Rattle.std.proofs.lemmas.List.{length-map, length_push, length-take-le, map_push, take-map, take-append-le, take-take, take_all, get_or-take, get_or_push, get_or_append_left}
 use Rattle.std.proofs.lemmas.Bool.{cases_lt}
 use Rattle.theory.specs.declared.row.Row.{Row}
-use Rattle.theory.specs.Meaning.{Meaning, Sane, with_row, with_level, without_level, newest}
+use Rattle.theory.specs.Meaning.{with_row, with_level, without_level, newest}
 use Rattle.theory.specs.Rows.{Point, Feasible, Meets}
 use Rattle.trail.specs.Trails as trails
 use Rattle.trail.specs.Trails.{items, levels, room, Roomy}
 use Rattle.trail.proofs.Levels.{sound_rising}
 use Rattle.sparse.specs.declared.graph.Edge.{Edge}
 use Rattle.sparse.specs.declared.graph.Graph.{Graph}
-use Rattle.sparse.specs.declared.potentials.Potentials.{Potentials}
 use Rattle.sparse.specs.declared.Sparse.{Sparse}
 use Rattle.differences.specs.Sides.{Fair}
 use Rattle.sparse.specs.Edges.{edges_of, levels_of, rows_in, Linked, Added, Met, Keeps}
 use Rattle.sparse.specs.Points.{point_of, Holds}
 use Rattle.sparse.specs.State.{Sound, Ready, meaning_of}
-use Rattle.sparse.proofs.Rows.{keeps_from_all, all_from_keeps, met_from_meets}
-
-pub sound_feasible : (s : Sparse) → Sound s → Feasible (rows_in (edges_of s.graph))
-sound_feasible s k = (point_of s.potentials, all_from_keeps _ _ k.linked.fair k.holds.keeps)
-
-pub sound_sane : (s : Sparse) → Sound s → Sane (meaning_of s)
-sound_sane s k = record {
-  limits = record { unknowns = omega arith; space = omega arith; depth = omega arith; reach = omega arith };
-  rows_fit = omega (arith, k.linked.edges_fit, length-map (edges_of s.graph) (λ (e : Edge). e.row));
-  levels_fit = k.linked.levels_fit;
-  point = sound_feasible s k;
-}
+use Rattle.sparse.specs.Sanity.{sound_feasible}
+use Rattle.sparse.proofs.Rows.{keeps_from_all, met_from_meets}
 
 all_front : (P : Row → Type 0) (rows : List Row) (r : Row) → All P (rows ++ r ∷ []) → All P rows × P r
 all_front P [] r h = (tt, h.0)

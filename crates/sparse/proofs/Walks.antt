@@ -1,14 +1,13 @@
 -- The walk over the edges out of the nearest unknown, and its settling. Assumes nothing.
-use Rattle.std.proofs.Common.{◌≡◌, ℕ, ◌+◌, ◌-◌, ◌*◌, ◌<◌, ◌≤◌, ◌⊎◌, List, length, get_or, ℤ, pos, ◌+ℤ◌, ◌-ℤ◌, nat_abs, ◌≤ℤ◌, ◌<ℤ◌, sym, refl, ap, ◌∙◌, subst, inl, inr, ⊎_elim, arith}
+use Rattle.std.proofs.Common.{◌≡◌, ℕ, ◌+◌, ◌*◌, ◌<◌, ◌≤◌, List, length, get_or, ℤ, ◌+ℤ◌, nat_abs, ◌≤ℤ◌, ◌<ℤ◌, sym, refl, ap, ◌∙◌, subst, ⊎_elim, arith}
 use Rattle.std.specs.List.{AllWithin}
 use Rattle.std.proofs.lemmas.List.{get_or_default}
-use Rattle.std.proofs.lemmas.Int.{ints}
 use Rattle.std.proofs.lemmas.Bool.{cases_lt, cases_eq}
 use Rattle.theory.specs.Rows.{Point}
 use Rattle.sparse.specs.declared.graph.Edge.{Edge}
 use Rattle.sparse.specs.declared.distances.Distances.{Distances}
 use Rattle.sparse.specs.Edges.{source, target, Met, Keeps, Link}
-use Rattle.sparse.specs.Distances.{key, Relaxed, Partial, Nearest, Offered, Walk, Walked, Stepped, Held, unsettled}
+use Rattle.sparse.specs.Distances.{key, Relaxed, Partial, Offered, Walk, Walked, Stepped, Held, unsettled}
 use Rattle.sparse.proofs.Counts.{count_same, count_less}
 use Rattle.sparse.proofs.Offers.{partial_offered, nearest_offered, relaxed_offered, relaxed_new, same_value, still_settled, was_settled}
 

@@ -3,13 +3,13 @@
 -- tentative and 2 where it is settled. A value is the length of a chain of edges from the start, not reduced.
 -- key: the value less the potential. Along an edge it never falls, since the reduced length c − (p(target) − p(source)) is not
 -- negative; so the keys in the order of settling are those of the reduced distances, less the start's potential.
-use Rattle.std.specs.Prelude.{◌≡◌, ℕ, zero, suc, ◌+◌, ◌*◌, ◌<◌, ◌≤◌, cond, ◌⊎◌, List, length, ℤ, pos, ◌+ℤ◌, ◌-ℤ◌, ◌≤ℤ◌, ◌<ℤ◌, Some, None, Option, MatchOption, ◌==◌, ◌≢◌, slice_index, slice_index_or, unsigned_abs}
+use Rattle.std.specs.Prelude.{◌≡◌, ℕ, zero, suc, ◌+◌, ◌*◌, ◌<◌, ◌≤◌, cond, ◌⊎◌, List, length, ℤ, pos, ◌+ℤ◌, ◌-ℤ◌, ◌≤ℤ◌, ◌<ℤ◌, Some, MatchOption, ◌==◌, ◌≢◌, slice_index, slice_index_or, unsigned_abs}
 use Rattle.std.specs.List.{AllWithin}
 use Rattle.theory.specs.Rows.{Point}
 use Rattle.sparse.specs.declared.graph.Edge.{Edge}
 use Rattle.sparse.specs.declared.distances.Best.{Best}
 use Rattle.sparse.specs.declared.distances.Distances.{Distances}
-use Rattle.sparse.specs.Edges.{source, target, Met, Keeps}
+use Rattle.sparse.specs.Edges.{source, target, Keeps}
 
 abbrev pub mark_of : Distances → ℕ → ℕ
 mark_of s r = slice_index s.marks.now r

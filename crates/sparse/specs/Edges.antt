@@ -3,7 +3,7 @@
 -- Met: a point meets the row of an edge.      Keeps: it meets those of all the edges.
 -- Link: the newest edge out of v below hi stands at lo − 1, and lo is 0 where there is none.
 -- Chained: each head links to the newest edge, and each edge to the one before it out of the same unknown.
-use Rattle.std.specs.Prelude.{◌≡◌, ℕ, ◌-◌, ◌<◌, ◌≤◌, List, [], ◌∷◌, ◌++◌, map, length, get_or, ℤ, ◌+ℤ◌, ◌≤ℤ◌, ◌≢◌, slice_index, slice_index_or}
+use Rattle.std.specs.Prelude.{◌≡◌, ℕ, ◌-◌, ◌<◌, ◌≤◌, List, [], ◌∷◌, ◌++◌, map, length, get_or, ◌+ℤ◌, ◌≤ℤ◌, ◌≢◌, slice_index, slice_index_or}
 use Rattle.std.specs.List.{AllWithin}
 use Rattle.theory.specs.declared.row.Row.{Row}
 use Rattle.theory.specs.Rows.{Point}

@@ -3,3 +3,4 @@ pub mod Points
 pub mod Distances
 pub mod Room
 pub mod State
+pub mod Sanity

@@ -19,6 +19,7 @@ ghost use Rattle.theory.specs.Rules.{side_fault};
 ghost use Rattle.sparse.specs.Room.{Enough};
 ghost use Rattle.differences.specs.Sides.{bottom_sizes, Fair};
 ghost use Rattle.sparse.specs.State.{meaning_of, Sound, Accepted};
+ghost use Rattle.sparse.specs.Sanity.{sound_sane};
 
 use checked::Checked;
 use differences::SIZES;
@@ -121,6 +122,8 @@ impl<'a> Theory for Sparse<'a> {
     ghost meaning = { meaning_of };
 
     ghost sound = { Sound };
+
+    ghost sane = { sound_sane };
 
     fn sizes(&self) -> Sizes {
         SIZES

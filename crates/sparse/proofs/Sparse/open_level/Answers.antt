@@ -6,8 +6,8 @@ use Rattle.sparse.proofs.Sparse.open_level.Goals as goal
 pub returns : goal.returns
 returns c =
     let s = c.args.self.now in
-    let s' : Sparse = record { graph = c.open-level.new.self; potentials = s.potentials; saved = c.add.new.self; marks = s.marks } in
-    let graph = c.open-level.ensures in
+    let s' : Sparse = record { graph = c.open_level.new.self; potentials = s.potentials; saved = c.add.new.self; marks = s.marks } in
+    let graph = c.open_level.ensures in
     let saved = c.add.ensures in
     record {
       kept = open_sound s s' c.requires.sound refl refl graph.edges graph.levels graph.linked saved.sound saved.roomy saved.items saved.levels;

@@ -5,4 +5,4 @@ use Rattle.sparse.specs.Edges.{edges_of}
 use Rattle.sparse.proofs.SparseTheory.row_count.Goals as goal
 
 pub returns : goal.returns
-returns c = c.edge-count.ensures ∙ sym (length-map (edges_of c.args.self.now.graph) (λ (e : Edge). e.row))
+returns c = c.edge_count.ensures ∙ sym (length-map (edges_of c.args.self.now.graph) (λ (e : Edge). e.row))

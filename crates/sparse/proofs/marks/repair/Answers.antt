@@ -1,11 +1,11 @@
-use Rattle.std.proofs.Common.{◌≡◌, ◌≤◌, nat_abs, sym, refl, subst, arith, w64, SFits, rules}
+use Rattle.std.proofs.Common.{◌≤◌, nat_abs, sym, refl, subst, arith, w64, SFits, rules}
 use Rattle.sparse.proofs.Sums.{sum_fits, sum_is, sum_near, opposite_fits}
 use Rattle.sparse.proofs.Greatest.{small_point}
 use Rattle.sparse.proofs.Repairing.{asked, told_met, told_circle, told_repaired}
 use Rattle.sparse.proofs.marks.repair.Goals as goal
 
-pub overflow-add-base : goal.overflow-add-base
-overflow-add-base c =
+pub overflow_add-base : goal.overflow_add-base
+overflow_add-base c =
     let k = asked _ _ c.args.row _ _ _ c.requires.linked.edges_fit c.requires.holds c.requires.fair c.ends-target.ensures c.at.ensures in
     sum_fits c.at.result c.args.row.c k.near k.c_near
 
@@ -18,8 +18,8 @@ returns-then-at-base c =
       answers = told_met _ _ c.requires.holds c.args.row _ _ _ k c.at-2.result fits c.at-2.ensures c.if-at-base.true;
     }
 
-pub overflow-sub-base : goal.overflow-sub-base
-overflow-sub-base c =
+pub overflow_sub-base : goal.overflow_sub-base
+overflow_sub-base c =
     let k = asked _ _ c.args.row _ _ _ c.requires.linked.edges_fit c.requires.holds c.requires.fair c.ends-target.ensures c.at.ensures in
     opposite_fits c.at.result c.args.row.c k.near k.c_near
 
@@ -35,17 +35,17 @@ run-requires c =
       keeps = c.requires.holds.keeps;
     }
 
-pub is-settled-requires : goal.is-settled-requires
-is-settled-requires c =
+pub is_settled-requires : goal.is_settled-requires
+is_settled-requires c =
     let k = asked _ _ c.args.row _ _ _ c.requires.linked.edges_fit c.requires.holds c.requires.fair c.ends-target.ensures c.at.ensures in
     (k.s_in, omega (arith, c.requires.long, c.run.ensures.held.long))
 
-pub returns-then-is-settled : goal.returns-then-is-settled
-returns-then-is-settled c =
+pub returns-then-is_settled : goal.returns-then-is_settled
+returns-then-is_settled c =
     let k = asked _ _ c.args.row _ _ _ c.requires.linked.edges_fit c.requires.holds c.requires.fair c.ends-target.ensures c.at.ensures in
     record {
       clear = search rules;
-      answers = (refl, told_circle _ _ c.requires.holds c.args.row _ _ _ k c.requires.linked.fair _ _ c.run.ensures.found c.if-is-settled.ensures, refl);
+      answers = (refl, told_circle _ _ c.requires.holds c.args.row _ _ _ k c.requires.linked.fair _ _ c.run.ensures.found c.if-is_settled.ensures, refl);
     }
 
 pub lower-requires : goal.lower-requires
@@ -62,5 +62,5 @@ returns c =
     let k = asked _ _ c.args.row _ _ _ c.requires.linked.edges_fit c.requires.holds c.requires.fair c.ends-target.ensures c.at.ensures in
     record {
       clear = search rules;
-      answers = told_repaired _ _ c.requires.holds c.args.row _ _ _ k c.requires.linked.fair _ _ c.run.ensures.found c.if-is-settled.ensures _ c.lower.ensures;
+      answers = told_repaired _ _ c.requires.holds c.args.row _ _ _ k c.requires.linked.fair _ _ c.run.ensures.found c.if-is_settled.ensures _ c.lower.ensures;
     }

@@ -1,4 +1,4 @@
-use Rattle.std.proofs.Common.{◌≡◌, ℕ, ◌<◌, get_or, pos, sym, refl, ap, ◌∙◌, subst, arith, w64, SFits, rules}
+use Rattle.std.proofs.Common.{get_or, pos, ◌∙◌, subst, arith, w64, SFits, rules}
 use Rattle.std.proofs.lemmas.Int.{to_z-of_z}
 use Rattle.sparse.specs.Points.{point_of}
 use Rattle.sparse.specs.Distances.{mark_of, value_of, Lowered}

@@ -1,4 +1,4 @@
-use Rattle.std.proofs.Common.{◌≡◌, ◌+◌, ◌-◌, ◌<◌, length, get_or, sym, refl, ap, ◌∙◌, subst, arith}
+use Rattle.std.proofs.Common.{◌≡◌, ◌+◌, ◌-◌, length, sym, refl, ap, ◌∙◌, subst, arith}
 use Rattle.sparse.specs.Edges.{edges_of, source, Link}
 use Rattle.sparse.specs.Distances.{mark_of, value_of, Walked}
 use Rattle.sparse.proofs.Sums.{sum_fits, sum_is}
@@ -15,8 +15,8 @@ loop-place-init c =
 pub edge-edge-requires : goal.edge-edge-requires
 edge-edge-requires c = record { linked = c.requires.linked; within = omega (arith, c.loop-place.invariant.1, c.loop-place-test.true) }
 
-pub overflow-add-value : goal.overflow-add-value
-overflow-add-value c =
+pub overflow_add-value : goal.overflow_add-value
+overflow_add-value c =
     let at = stands c.args.graph.now c.requires.linked _ c.edge-edge.result (omega (arith, c.loop-place.invariant.1, c.loop-place-test.true)) c.edge-edge.ensures in
     sum_fits (value_of c.args.self.now c.args.v) c.edge-edge.result.row.c (omega (arith, c.requires.small)) at.near
 

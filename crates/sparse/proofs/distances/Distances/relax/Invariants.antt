@@ -1,4 +1,4 @@
-use Rattle.std.proofs.Common.{◌≡◌, ℕ, ◌-◌, ◌<◌, ◌≤◌, length, get_or}
+use Rattle.std.proofs.Common.{◌≡◌, ◌-◌, ◌<◌, ◌≤◌, length, get_or}
 use Rattle.sparse.specs.declared.graph.Edge.{Edge}
 use Rattle.sparse.specs.Edges.{edges_of, source}
 use Rattle.sparse.specs.Distances.{mark_of, value_of, Held, Walked}

@@ -1,4 +1,4 @@
-use Rattle.std.proofs.Common.{◌≡◌, refl, subst, arith, w64}
+use Rattle.std.proofs.Common.{refl, subst, arith, w64}
 use Rattle.std.proofs.lemmas.Int.{to_z-of_z}
 use Rattle.sparse.specs.Edges.{edges_of}
 use Rattle.sparse.specs.Points.{point_of}
@@ -43,7 +43,7 @@ loop-v-preserved c = (
 pub returns : goal.returns
 returns c =
     let limit = to_z-of_z w64 c.args.limit c.ranges.limit in
-    let found = run_ended c.loop-v.invariant.1 c.in-default.ensures in
+    let found = run_ended c.loop-v.invariant.1 c.in_default.ensures in
     record {
       held = held_twice _ _ _ c.offer.ensures.held c.loop-v.invariant.0;
       found = subst (λ l. Found (edges_of c.args.graph.now) (point_of c.args.potentials.now) c.args.start l (mark_of c.loop-v.self) (value_of c.loop-v.self)) limit found;

@@ -8,8 +8,8 @@ use Rattle.sparse.proofs.graph.Graph.add.Goals as goal
 one_more : (c : goal.After-len) → c.len.result ≡ length (edges_of c.args.self.now) + 1
 one_more c = c.len.ensures ∙ ap length c.add.ensures.items ∙ length_push (edges_of c.args.self.now) _
 
-pub overflow-cast-self : goal.overflow-cast-self
-overflow-cast-self c = omega (arith, one_more c, c.requires.room)
+pub overflow_cast-self : goal.overflow_cast-self
+overflow_cast-self c = omega (arith, one_more c, c.requires.room)
 
 pub returns : goal.returns
 returns c =
