@@ -1,2 +1,4 @@
 pub mod Lines
 pub mod Sums
+pub mod Stacks
+pub mod States

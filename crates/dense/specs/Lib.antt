@@ -1,4 +1,3 @@
 pub mod Entries
 pub mod State
-pub mod States
-pub mod Stacks
+pub mod Sanity

@@ -16,7 +16,7 @@ ghost use Rattle.theory.specs.Rules.{side_fault};
 ghost use Rattle.theory.specs.Calls.{PointChecked};
 ghost use Rattle.differences.specs.Sides.{bottom_sizes, Fair};
 ghost use Rattle.dense.specs.State.{meaning_of, Sound};
-ghost use Rattle.dense.specs.States.{sound_sane};
+ghost use Rattle.dense.specs.Sanity.{sound_sane};
 
 use differences::{SIZES, ends};
 use matrix::Matrix;
@@ -123,7 +123,7 @@ impl Theory for Dense {
 
     ghost sound = { Sound };
 
-    ghost sane = { λ t s. sound_sane t s };
+    ghost sane = { sound_sane };
 
     fn sizes(&self) -> Sizes {
         SIZES

@@ -23,4 +23,4 @@ tell-requires g c = record {
 pub returns : goal.returns
 returns g c =
     law c.args.one.now.sizes c.args.calls.now (vec_items c.play.new.answers) (own c.play.new.engine) (played g (goal.at.returns g c).After-play) c.args.next _ _ _ _ _ _ _ refl
-    c.requires.alike c.rows.ensures c.levels.ensures c.in-ok-taken.ensures.runs c.perform-first.ensures.steps c.perform-second.ensures.steps (ap length c.rows-rows.ensures) (ap length c.levels-levels.ensures)
+    c.requires.alike c.rows.ensures c.levels.ensures c.in_ok-taken.ensures.runs c.perform-first.ensures.steps c.perform-second.ensures.steps (ap length c.rows-rows.ensures) (ap length c.levels-levels.ensures)

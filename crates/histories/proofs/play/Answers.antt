@@ -6,7 +6,7 @@ use Rattle.histories.proofs.play.Goals as goal
 pub loop-call-preserved : goal.loop-call-preserved
 loop-call-preserved g c = (
   c.perform-a.ensures.kept,
-  run_more (own c.args.engine.now) (own c.loop-call.engine) (own c.perform-a.new.engine) c.args.calls.now c.loop-call.call-index _ _ _ _ c.loop-call-test.true (search rules) c.loop-call.invariant.1 c.perform-a.ensures.steps c.push-reserved.ensures.items,
+  run_more (own c.args.engine.now) (own c.loop-call.engine) (own c.perform-a.new.engine) c.args.calls.now c.loop-call.call-index _ _ _ _ c.loop-call-test.true (search rules) c.loop-call.invariant.1 c.perform-a.ensures.steps c.push_reserved.ensures.items,
   omega arith,
   omega arith,
 )

@@ -2,7 +2,7 @@ use Rattle.std.proofs.Common.{◌<◌, vec_len, refl, arith, w64, SFits, rules}
 use Rattle.std.proofs.lemmas.Int.{to_z-of_z}
 use Rattle.dense.specs.declared.Dense.{Dense}
 use Rattle.differences.proofs.Sides.{ends_of, fair_side, fair_near}
-use Rattle.dense.specs.States.{sound_near, accept_sound, accept_meaning}
+use Rattle.dense.proofs.States.{sound_near, accept_sound, accept_meaning}
 use Rattle.dense.proofs.Dense.accept.Goals as goal
 
 pub relax-requires : goal.relax-requires

@@ -1,6 +1,6 @@
 use Rattle.std.proofs.Common.{sym, refl, ◌∙◌}
 use Rattle.differences.proofs.Sides.{fair_near}
-use Rattle.dense.specs.States.{entry_near, point_if_none, point_if_met, no_point_if_below}
+use Rattle.dense.proofs.States.{entry_near, point_if_none, point_if_met, no_point_if_below}
 use Rattle.dense.proofs.Sums.{sum_fits, sum_below, sum_met}
 use Rattle.dense.proofs.Dense.check_point.Goals as goal
 

@@ -1,7 +1,7 @@
 use Rattle.std.proofs.Common.{◌≤◌, ◌++◌, vec_items, vec_len, refl, ap, ◌∙◌, arith}
 use Rattle.std.specs.Option.{option_to_list}
 use Rattle.dense.specs.declared.Dense.{Dense}
-use Rattle.dense.specs.States.{close_sound, close_meaning}
+use Rattle.dense.proofs.States.{close_sound, close_meaning}
 use Rattle.dense.proofs.Dense.close_level.Goals as goal
 
 pub returns : goal.returns

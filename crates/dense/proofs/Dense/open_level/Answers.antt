@@ -1,7 +1,7 @@
 use Rattle.std.proofs.Common.{◌<◌, vec_len, refl, ◌∙◌, arith}
 use Rattle.std.proofs.lemmas.List.{length-map}
 use Rattle.dense.specs.declared.Dense.{Dense}
-use Rattle.dense.specs.States.{open_sound, open_meaning}
+use Rattle.dense.proofs.States.{open_sound, open_meaning}
 use Rattle.dense.proofs.Dense.open_level.Goals as goal
 
 pub push_reserved-requires : goal.push_reserved-requires

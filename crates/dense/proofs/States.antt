@@ -3,9 +3,9 @@ use Rattle.std.specs.Prelude.{◌≡◌, ℕ, ◌-◌, ◌<◌, ◌≤◌, List,
 use Rattle.std.proofs.Common.{sym, ap, subst, arith}
 use Rattle.std.specs.List.{AllByRecursion as All}
 use Rattle.std.proofs.ByRecursion.{All-push, All-take}
-use Rattle.std.proofs.lemmas.List.{length-map, length_push, map_push, get_or_push, take_at}
+use Rattle.std.proofs.lemmas.List.{length_push, map_push, get_or_push, take_at}
 use Rattle.theory.specs.declared.row.Row.{Row}
-use Rattle.theory.specs.Meaning.{Sane, with_row, with_level, without_level, newest}
+use Rattle.theory.specs.Meaning.{with_row, with_level, without_level, newest}
 use Rattle.theory.specs.Rows.{Feasible}
 use Rattle.dense.specs.declared.Dense.{Dense}
 use Rattle.dense.specs.declared.Level.{Level}
@@ -14,19 +14,11 @@ use Rattle.differences.specs.Tabled.{Near, Tabled}
 use Rattle.differences.proofs.Sides.{fair_difference}
 use Rattle.dense.specs.Entries.{entry, far}
 use Rattle.dense.specs.State.{Stack, Sound, meaning_of}
-use Rattle.dense.specs.Stacks.{stack_row, stack_push, stack_pop}
-use Rattle.differences.proofs.Tables.{Same, next, same_tabled, table_feasible, table_near, table_agrees, table_with_row, table_takes, table_contradicts}
+use Rattle.dense.proofs.Stacks.{stack_row, stack_push, stack_pop}
+use Rattle.differences.proofs.Tables.{Same, next, same_tabled, table_near, table_agrees, table_with_row, table_takes, table_contradicts}
 
 pub sound_near : (d : Dense) → Sound d → (i j : ℕ) → i < 64 → j < 64 → Near far (entry d.matrix i j)
 sound_near d s = table_near 64 4000000 _ _ s.differences s.table
-
-pub sound_sane : (d : Dense) → Sound d → Sane (meaning_of d)
-sound_sane d s = record {
-  limits = record { unknowns = omega arith; space = omega arith; depth = omega arith; reach = omega arith };
-  rows_fit = omega (arith, s.rows_fit, d.rows.ok.0);
-  levels_fit = simp length-map (omega (arith, s.levels_fit, d.levels.ok.0));
-  point = table_feasible 64 4000000 _ _ s.differences s.table;
-}
 
 -- rule 7 by the entry of the mirrored difference
 module _ (d : Dense) (s : Sound d) (r : Row) (fair : Fair r) where
