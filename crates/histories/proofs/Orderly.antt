@@ -1,14 +1,13 @@
 -- What every run from an empty meaning keeps: the rows have a point and pass their rules, the counts fit the sizes, and the levels rise to the number of rows. Assumes nothing.
-use Rattle.std.proofs.Common.{◌≡◌, ℕ, ◌+◌, ◌-◌, ◌<◌, ◌≤◌, List, [], ◌∷◌, ◌++◌, length, get_or, take, pos, Some, None, Ok, Err, Option, sym, refl, ap, ◌∙◌, subst, arith}
+use Rattle.std.proofs.Common.{◌≡◌, ℕ, ◌+◌, ◌-◌, ◌<◌, ◌≤◌, List, [], ◌∷◌, ◌++◌, length, take, pos, None, Ok, Err, sym, refl, ap, ◌∙◌, subst, arith}
 use Rattle.std.specs.List.{AllByRecursion as All}
 use Rattle.std.proofs.lemmas.List.{length_push, length-take, length-take-le, take_more, take_all}
 use Rattle.std.proofs.ByRecursion.{All-push, All-take}
 use Rattle.std.proofs.lemmas.Bool.{leb-false}
-use Rattle.theory.specs.declared.refusal.Refusal.{Refusal}
 use Rattle.theory.specs.declared.row.Row.{Row}
 use Rattle.theory.specs.declared.sizes.Sizes.{Sizes}
 use Rattle.theory.specs.Rows.{Feasible, Meets}
-use Rattle.theory.specs.Rules.{row_fault, or_else}
+use Rattle.theory.specs.Rules.{row_fault}
 use Rattle.theory.specs.Meaning.{Meaning, empty, newest, with_row, with_level, without_level}
 use Rattle.theory.specs.Calls.{put_fault}
 use Rattle.theory.proofs.Faults.{passed_both}

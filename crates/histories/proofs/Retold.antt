@@ -1,8 +1,8 @@
 -- A new engine that is told what stands after a run takes all of it. Assumes nothing.
-use Rattle.std.proofs.Common.{◌≡◌, ℕ, ◌+◌, ◌-◌, ◌<◌, ◌≤◌, List, [], ◌∷◌, ◌++◌, map, length, take, drop, None, Ok, sym, refl, ap, ◌∙◌, subst, arith}
+use Rattle.std.proofs.Common.{◌≡◌, ℕ, ◌+◌, ◌-◌, ◌<◌, ◌≤◌, List, [], ◌∷◌, ◌++◌, map, length, take, drop, Ok, sym, refl, ap, subst, arith}
 use Rattle.std.specs.List.{AllByRecursion as All}
 use Rattle.std.proofs.lemmas.List.{append-nil, append_assoc, length-append, map-append, take-append-drop, take-take, length-take-le, take_at, drop-take, length-map, length-drop}
-use Rattle.std.proofs.ByRecursion.{All-take, All-drop}
+use Rattle.std.proofs.ByRecursion.{All-take}
 use Rattle.std.proofs.lemmas.Bool.{lt-leb}
 use Rattle.theory.specs.declared.row.Row.{Row}
 use Rattle.theory.specs.declared.sizes.Sizes.{Sizes}

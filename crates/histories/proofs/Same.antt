@@ -1,12 +1,12 @@
 -- A step and a run have one outcome, and a refused step changes nothing. Assumes nothing.
-use Rattle.std.proofs.Common.{◌≡◌, ℕ, List, [], ◌∷◌, Ok, Err, Result, sym, refl, ap, ◌∙◌, subst, arith}
+use Rattle.std.proofs.Common.{◌≡◌, ℕ, List, [], ◌∷◌, Ok, Err, sym, refl, ap, ◌∙◌, subst, arith}
 use Rattle.theory.specs.Meaning.{Meaning}
 use Rattle.theory.proofs.Unique.{put_unique, push_unique, pop_unique, tightest_unique, row_unique}
 use Rattle.theory.specs.declared.refusal.Refusal.{Refusal}
 use Rattle.histories.specs.declared.Call.{Call}
 use Rattle.histories.specs.declared.Call.TheVariants.{Push, Pop, Offer, Tightest, RowAt}
 use Rattle.histories.specs.declared.Answer.{Answer}
-use Rattle.histories.specs.declared.Answer.TheVariants.{Done, Value, Found, Refused}
+use Rattle.histories.specs.declared.Answer.TheVariants.{Done, Refused}
 use Rattle.histories.specs.Steps.{Step, done_answer, value_answer, row_answer}
 use Rattle.histories.specs.Runs.{Run}
 

@@ -1,5 +1,5 @@
 -- The law of histories: an answer depends on the standing rows, the open levels and the sizes, and on nothing else. Assumes nothing.
-use Rattle.std.specs.Prelude.{◌≡◌, ℕ, ◌+◌, List, length, vec_items}
+use Rattle.std.specs.Prelude.{◌≡◌, ◌+◌, List, length, vec_items}
 use Rattle.theory.specs.declared.refusal.Refusal.{Refusal}
 use Rattle.theory.specs.declared.sizes.Sizes.{Sizes}
 use Rattle.theory.specs.Meaning.{Meaning, empty}

@@ -1,5 +1,5 @@
 -- The text of an answer. Assumes nothing.
-use Rattle.std.specs.Prelude.{ℕ, List, [], ◌∷◌, ◌++◌, ℤ, pos, negsuc, Some, None, codes, decimal, Option}
+use Rattle.std.specs.Prelude.{ℕ, List, ◌++◌, ℤ, pos, negsuc, Some, None, codes, decimal}
 use Rattle.std.specs.Fmt.{signed_decimal}
 use Rattle.theory.specs.declared.row.Sign.{Sign}
 use Rattle.theory.specs.declared.row.Sign.TheVariants.{Zero, Plus, Minus}

@@ -76,8 +76,8 @@ fn done(r: Result<(), Refusal>) -> Answer
 
 // One call on an engine.
 fn perform<T: Theory>(engine: &mut Engine<T>, call: Call) -> Answer
-    requires { Agrees sound meaning engine.old }
-    ensures kept { Agrees sound meaning engine.new }
+    requires { Agrees T.sound T.meaning engine.old }
+    ensures kept { Agrees T.sound T.meaning engine.new }
     ensures steps { Step (own engine.old) call result (own engine.new) }
 {
     match call {
@@ -96,10 +96,10 @@ fn perform<T: Theory>(engine: &mut Engine<T>, call: Call) -> Answer
 }
 
 fn play<T: Theory>(engine: &mut Engine<T>, calls: &[Call], answers: &mut Vec<Answer>)
-    requires agrees { Agrees sound meaning engine.old }
+    requires agrees { Agrees T.sound T.meaning engine.old }
     requires none { answers.old.items ≡ [] }
     requires room { length calls.now ≤ vec_capacity answers.old }
-    ensures kept { Agrees sound meaning engine.new }
+    ensures kept { Agrees T.sound T.meaning engine.new }
     ensures runs { Run (own engine.old) calls.now answers.new.items (own engine.new) }
 {
     for call in calls {
@@ -118,7 +118,8 @@ fn tell_rows(calls: &mut Vec<Call>, rows: &[Row]) -> Result<(), AllocError>
 }
 
 fn tell_part(calls: &mut Vec<Call>, rows: &[Row], from: usize, to: usize) -> Result<(), AllocError>
-    requires { (from ≤ to) × (to ≤ length rows.now) }
+    requires rising { from ≤ to }
+    requires within { to ≤ length rows.now }
     ensures { OnOk result (calls.new.items ≡ calls.old.items ++ map TheOffer (part from to rows.now)) }
 {
     tell_rows(calls, &rows[from..to])
@@ -154,7 +155,7 @@ fn count_done(answers: &[Answer]) -> usize
 }
 
 fn begin<S: Start>(heap: Global, start: S) -> Result<Engine<S::Made>, Fault>
-    ensures { MatchResult result (λ e. Agrees S.Made.Theory.sound S.Made.Theory.meaning e × (own e ≡ empty (starts start))) (λ f. f ≡ Memory) }
+    ensures { MatchResult result (λ e. Agrees S.Made.Theory.sound S.Made.Theory.meaning e × (own e ≡ empty (S.starts start))) (λ f. f ≡ Memory) }
 {
     let theory = start.start(heap)?;
     match Engine::new(heap, theory) {
@@ -170,9 +171,9 @@ fn tell<T: Theory>(
     rows: &[Row],
     levels: &[u32],
 ) -> Result<usize, AllocError>
-    requires agrees { Agrees sound meaning engine.old }
+    requires agrees { Agrees T.sound T.meaning engine.old }
     requires rises { Rising 0 levels.now (length rows.now) }
-    ensures kept { Agrees sound meaning engine.new }
+    ensures kept { Agrees T.sound T.meaning engine.new }
     ensures runs { IfOk result (Tells (own engine.old) rows.now levels.now (own engine.new)) }
 {
     let telling = retelling(heap, rows, levels)?;
@@ -189,8 +190,8 @@ fn compare<A: Theory, B: Theory>(
     calls: &[Call],
     next: Call,
 ) -> Result<History, AllocError>
-    requires first { Agrees A.Theory.sound A.Theory.meaning one.old }
-    requires second { Agrees B.Theory.sound B.Theory.meaning other.old }
+    requires first { Agrees A.sound A.meaning one.old }
+    requires second { Agrees B.sound B.meaning other.old }
     requires fresh { own one.old ≡ empty one.old.sizes }
     requires alike { own other.old ≡ empty one.old.sizes }
     ensures { IfOk result (λ h. Law one.old.sizes calls.now next h) }
@@ -221,7 +222,7 @@ pub fn run<P: Start, Q: Start + Drop>(
     calls: &[Call],
     next: Call,
 ) -> Result<History, Fault>
-    ensures { MatchResult result (Law (P.Start.starts first) calls.now next) (Faulted (P.Start.starts first) (Q.Start.starts second)) }
+    ensures { MatchResult result (Law (P.starts first) calls.now next) (Faulted (P.starts first) (Q.starts second)) }
 {
     let mut one = begin(heap, first)?;
     let mut other = begin(heap, second)?;

@@ -1,8 +1,8 @@
-use Rattle.std.proofs.Common.{◌≡◌, length, vec_items, sym, refl, ap, ◌∙◌, subst, subst₂}
+use Rattle.std.proofs.Common.{length, vec_items, sym, refl, ap, subst, subst₂}
 use Rattle.theory.specs.Meaning.{empty}
 use Rattle.engine.specs.Engines.{own}
 use Rattle.histories.specs.Runs.{Run}
-use Rattle.histories.specs.Told.{told_from, Rising}
+use Rattle.histories.specs.Told.{Rising}
 use Rattle.histories.proofs.Laws.{rises, law}
 use Rattle.histories.proofs.compare.Given as given
 use Rattle.histories.proofs.compare.Goals as goal

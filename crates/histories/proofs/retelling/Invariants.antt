@@ -1,4 +1,4 @@
-use Rattle.std.proofs.Common.{◌≡◌, ◌≤◌, ◌++◌, length, drop, vec_items}
+use Rattle.std.proofs.Common.{◌≡◌, ◌++◌, length, drop, vec_items}
 use Rattle.histories.specs.Told.{told_from, Rising}
 use Rattle.histories.proofs.retelling.Given as goal
 
