@@ -86,8 +86,8 @@ fn try_call<T: Theory>(
     dice: &mut Dice,
     tally: &mut Tally,
 ) -> Result<(), AllocError>
-    requires { Agrees sound meaning engine.old }
-    ensures { Agrees sound meaning engine.new }
+    requires { Agrees T.sound T.meaning engine.old }
+    ensures { Agrees T.sound T.meaning engine.new }
 {
     match dice.roll(8) {
         0 => {
