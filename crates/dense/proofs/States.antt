@@ -1,7 +1,7 @@
 -- What a step makes of a sound state: it stays sound, and its meaning changes as the step says. Assumes nothing.
 use Rattle.std.specs.Prelude.{◌≡◌, ℕ, ◌-◌, ◌<◌, ◌≤◌, List, [], ◌∷◌, ◌++◌, map, length, take, ℤ, pos, ◌+ℤ◌, ◌≤ℤ◌, ◌<ℤ◌, Some, None, vec_items, vec_len, vec_capacity, unsigned_abs}
 use Rattle.std.proofs.Common.{sym, ap, subst, arith}
-use Rattle.std.specs.List.{AllByRecursion as All}
+use Rattle.std.specs.List.{AllByRecursion}
 use Rattle.std.proofs.ByRecursion.{All-push, All-take}
 use Rattle.std.proofs.lemmas.List.{length_push, map_push, get_or_push, take_at}
 use Rattle.theory.specs.declared.row.Row.{Row}
@@ -46,7 +46,7 @@ module _ (d e : Dense) (s : Sound d) where
         let table = same_tabled 64 4000000 _ _ same _ all (table_with_row 64 4000000 _ _ s.table r row agrees) in
         record {
           table = subst (λ rows. Tabled 64 rows (entry e.matrix)) (sym items) table;
-          differences = subst (All (Difference 64 4000000)) (sym items) all;
+          differences = subst (AllByRecursion (Difference 64 4000000)) (sym items) all;
           stack = rw (levels, items) (stack_row 0 _ _ r s.stack);
           rows_fit = omega (arith, e.rows.ok.0, d.rows.ok.0, ap length items, length_push (vec_items d.rows) r);
           rows_room = omega (arith, s.rows_room);

@@ -2,7 +2,7 @@
 -- Stack: each level's matrix is that of the rows of its time.   Sound: the state is as the methods need it.
 -- meaning-of: its rows, levels and sizes.
 use Rattle.std.specs.Prelude.{ℕ, ◌≤◌, List, [], ◌∷◌, map, length, take, vec_items, vec_len, vec_capacity}
-use Rattle.std.specs.List.{AllByRecursion as All}
+use Rattle.std.specs.List.{AllByRecursion}
 use Rattle.theory.specs.declared.row.Row.{Row}
 use Rattle.theory.specs.Meaning.{Meaning}
 use Rattle.differences.specs.Sides.{bottom_sizes, Difference}
@@ -18,7 +18,7 @@ Stack low rows (l ∷ ls) = (low ≤ l.count) × Tabled 64 (take l.count rows) (
 
 pub record Sound (d : Dense) : Type 0 where
   pub table : Tabled 64 (vec_items d.rows) (entry d.matrix)
-  pub differences : All (Difference 64 4000000) (vec_items d.rows)
+  pub differences : AllByRecursion (Difference 64 4000000) (vec_items d.rows)
   pub stack : Stack 0 (vec_items d.rows) (vec_items d.levels)
   pub rows_fit : vec_len d.rows ≤ 1024
   pub rows_room : 1024 ≤ vec_capacity d.rows

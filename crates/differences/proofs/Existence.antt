@@ -1,6 +1,6 @@
 -- Rows that bound differences and have a point have a table of their greatest differences: it is made row by row. Assumes nothing.
 use Rattle.std.proofs.Common.{◌≡◌, ℕ, cond, eqb, List, [], ◌∷◌, ◌++◌, ℤ, pos, ◌+ℤ◌, ◌-ℤ◌, ◌≤ℤ◌, Some, None, refl, subst, ⊎_elim, append_assoc, append-nil, arith}
-use Rattle.std.specs.List.{AllByRecursion as All}
+use Rattle.std.specs.List.{AllByRecursion}
 use Rattle.std.proofs.lemmas.Int.{ints}
 use Rattle.std.proofs.lemmas.Bool.{cases_eq, eq-eqb, ne_eqb}
 use Rattle.theory.specs.declared.row.Row.{Row}
@@ -44,13 +44,13 @@ no_rows_kept p i j =
 no_rows_tabled : (n : ℕ) → Tabled n [] no_rows
 no_rows_tabled n = record { metric = no_rows_metric n; has = tt; keeps = λ p meets i j i_in j_in. no_rows_kept p i j }
 
-front : (P : Row → Type 0) (rows more : List Row) → All P (rows ++ more) → All P rows
+front : (P : Row → Type 0) (rows more : List Row) → AllByRecursion P (rows ++ more) → AllByRecursion P rows
 front P [] more h = tt
 front P (r ∷ rows) more h = (h.0, front P rows more h.1)
 
 module _ (n reach : ℕ) where
   -- a table with more rows put in, one after another
-  extended : (rows : List Row) (D : Differences) → Tabled n rows D → (more : List Row) → All (Difference n reach) more → Feasible (rows ++ more) → (E : Differences) × Tabled n (rows ++ more) E
+  extended : (rows : List Row) (D : Differences) → Tabled n rows D → (more : List Row) → AllByRecursion (Difference n reach) more → Feasible (rows ++ more) → (E : Differences) × Tabled n (rows ++ more) E
   extended rows D t [] fair point = (D, rw append-nil t)
   extended rows D t (r ∷ more) fair point =
       let regrouped : Feasible ((rows ++ r ∷ []) ++ more) = rw (append_assoc rows (r ∷ []) more) point in
@@ -59,5 +59,5 @@ module _ (n reach : ℕ) where
       let rest = extended (rows ++ r ∷ []) (next D r) step more fair.1 regrouped in
       (rest.0, rw (append_assoc rows (r ∷ []) more) at rest.1)
 
-  pub table_exists : (rows : List Row) → All (Difference n reach) rows → Feasible rows → (D : Differences) × Tabled n rows D
+  pub table_exists : (rows : List Row) → AllByRecursion (Difference n reach) rows → Feasible rows → (D : Differences) × Tabled n rows D
   table_exists rows fair point = extended [] no_rows (no_rows_tabled n) rows fair point

@@ -1,7 +1,7 @@
 -- What a table of the greatest differences of rows gives: a point, the greatest values, small entries, and the table of one more row; and that there is one. Assumes nothing.
 use Rattle.std.proofs.Common.{◌≡◌, ℕ, ◌*◌, ◌<◌, List, [], ◌∷◌, ◌++◌, ℤ, pos, ◌+ℤ◌, ◌-ℤ◌, nat_abs, ◌≤ℤ◌, ◌<ℤ◌, Some, None, Option, refl, ⊎_elim, arith}
 use lib.Signed.{≤ℤ_refl}
-use Rattle.std.specs.List.{AllByRecursion as All}
+use Rattle.std.specs.List.{AllByRecursion}
 use Rattle.std.proofs.ByRecursion.{All-push, All-weaker}
 use Rattle.std.proofs.lemmas.Int.{ints}
 use Rattle.std.proofs.lemmas.Bool.{cases_lt}
@@ -29,13 +29,13 @@ next D r = with_row D (first r.side) (second r.side) r.c
 abbrev pub Same : ℕ → Differences → Differences → Type 0
 Same n D E = (i j : ℕ) → i < n → j < n → E i j ≡ D i j
 
-all_front : (P : Row → Type 0) (rows : List Row) (r : Row) → All P (rows ++ r ∷ []) → All P rows × P r
+all_front : (P : Row → Type 0) (rows : List Row) (r : Row) → AllByRecursion P (rows ++ r ∷ []) → AllByRecursion P rows × P r
 all_front P [] r h = (tt, h.0)
 all_front P (x ∷ rows) r h = let rest = all_front P rows r h.1 in ((h.0, rest.0), rest.1)
 
 module _ (n reach : ℕ) where
   -- a point that keeps the table meets the rows that are in it
-  meets_rows : (D : Differences) (p : Point) → tables.Meets n p D → (rows : List Row) → All (Difference n reach) rows → All (Bounds D) rows → All (Meets p) rows
+  meets_rows : (D : Differences) (p : Point) → tables.Meets n p D → (rows : List Row) → AllByRecursion (Difference n reach) rows → AllByRecursion (Bounds D) rows → AllByRecursion (Meets p) rows
   meets_rows D p meets [] fair has = tt
   meets_rows D p meets (r ∷ rows) fair has =
       let e = fair.0.ends in
@@ -43,18 +43,18 @@ module _ (n reach : ℕ) where
       (rw (e.is p) row, meets_rows D p meets rows fair.1 has.1)
 
   -- a point whose small differences are no greater than those of a point that meets the rows
-  still_meets : (p q : Point) → StillMet n reach p q → (rows : List Row) → All (Difference n reach) rows → All (Meets p) rows → All (Meets q) rows
+  still_meets : (p q : Point) → StillMet n reach p q → (rows : List Row) → AllByRecursion (Difference n reach) rows → AllByRecursion (Meets p) rows → AllByRecursion (Meets q) rows
   still_meets p q still [] fair meets = tt
   still_meets p q still (r ∷ rows) fair meets =
       let e = fair.0.ends in
       (rw (e.is q) (still _ _ r.c e.first_in e.second_in fair.0.near (rw (e.is p) at meets.0)), still_meets p q still rows fair.1 meets.1)
 
-  module _ (rows : List Row) (D : Differences) (fair : All (Difference n reach) rows) (t : Tabled n rows D) where
+  module _ (rows : List Row) (D : Differences) (fair : AllByRecursion (Difference n reach) rows) (t : Tabled n rows D) where
     pub table_feasible : Feasible rows
     table_feasible = let f = difference_filled n D t.metric in (f.0, meets_rows D f.0 f.1 rows fair t.has)
 
     -- a difference comes up to every number that its entry allows
-    comes_to : (i j : ℕ) → i < n → j < n → (c : ℤ) → Allows (D i j) c → (p : Point) × All (Meets p) rows × (c ≤ℤ (p i -ℤ p j))
+    comes_to : (i j : ℕ) → i < n → j < n → (c : ℤ) → Allows (D i j) c → (p : Point) × AllByRecursion (Meets p) rows × (c ≤ℤ (p i -ℤ p j))
     comes_to i j i_in j_in c a =
         let f = difference_attained n D t.metric i j i_in j_in c a in
         (f.0, meets_rows D f.0 f.1 rows fair t.has, f.2)
@@ -95,13 +95,13 @@ module _ (n reach : ℕ) where
       triangle = λ i k j a b i_in k_in j_in h l. rw (same i j i_in j_in) (m.triangle i k j a b i_in k_in j_in (rw (same i k i_in k_in) at h) (rw (same k j k_in j_in) at l));
     }
 
-    same_has : (rows : List Row) → All (Difference n reach) rows → All (Bounds D) rows → All (Bounds E) rows
+    same_has : (rows : List Row) → AllByRecursion (Difference n reach) rows → AllByRecursion (Bounds D) rows → AllByRecursion (Bounds E) rows
     same_has [] fair has = tt
     same_has (r ∷ rows) fair has =
         let e = fair.0.ends in
         (rw (same _ _ e.first_in e.second_in) has.0, same_has rows fair.1 has.1)
 
-    pub same_tabled : (rows : List Row) → All (Difference n reach) rows → Tabled n rows D → Tabled n rows E
+    pub same_tabled : (rows : List Row) → AllByRecursion (Difference n reach) rows → Tabled n rows D → Tabled n rows E
     same_tabled rows fair t = record {
       metric = same_metric t.metric;
       has = same_has rows fair t.has;
@@ -132,5 +132,5 @@ module _ (n reach : ℕ) where
     pub table_contradicts : (d : ℤ) → D (second r.side) (first r.side) ≡ Some d → (d +ℤ r.c) <ℤ pos 0 → Feasible (rows ++ r ∷ []) → ⊥
     table_contradicts d is below f = omega (arith, ints, table_agrees f d is)
 
-    pub table_takes : All (Difference n reach) rows → Agrees D r → Feasible (rows ++ r ∷ [])
+    pub table_takes : AllByRecursion (Difference n reach) rows → Agrees D r → Feasible (rows ++ r ∷ [])
     table_takes fair agrees = table_feasible (rows ++ r ∷ []) (next D r) (All-push (Difference n reach) rows r fair fair_row) (table_with_row agrees)

@@ -1,7 +1,7 @@
 -- Tables of the greatest differences of rows. Assumes nothing.
 -- Bounds: the table has a bound for the row.  Tabled: the table is that of the greatest differences.  Near: a bound lies near 0.
 use Rattle.std.specs.Prelude.{ℕ, ◌≤◌, List, ℤ, Some, None, Option, unsigned_abs}
-use Rattle.std.specs.List.{AllByRecursion as All}
+use Rattle.std.specs.List.{AllByRecursion}
 use Rattle.theory.specs.declared.row.Row.{Row}
 use Rattle.theory.specs.Rows.{Point, Meets}
 use Rattle.bounds.specs.Tables as tables
@@ -20,5 +20,5 @@ Bounds D r = AtMost (D (first r.side) (second r.side)) r.c
 -- the table is closed, has a bound for each row, and says no more than the rows do
 pub record Tabled (n : ℕ) (rows : List Row) (D : Differences) : Type 0 where
   pub metric : Metric n D
-  pub has : All (Bounds D) rows
-  pub keeps : (p : Point) → All (Meets p) rows → tables.Meets n p D
+  pub has : AllByRecursion (Bounds D) rows
+  pub keeps : (p : Point) → AllByRecursion (Meets p) rows → tables.Meets n p D

@@ -2,14 +2,14 @@
 -- Ready: the rows below bound differences.      Reads: an answer is what every table of the greatest differences has.
 -- Answered: what a question gives and leaves.
 use Rattle.std.specs.Prelude.{◌≡◌, ℕ, ℤ, Option}
-use Rattle.std.specs.List.{AllByRecursion as All}
+use Rattle.std.specs.List.{AllByRecursion}
 use Rattle.theory.specs.Meaning.{Meaning}
 use Rattle.bounds.specs.Tables.{Differences}
 use Rattle.differences.specs.Sides.{Difference}
 use Rattle.differences.specs.Tabled.{Near, Tabled}
 
 abbrev pub Ready : Meaning → Type 0
-Ready m = All (Difference m.sizes.unknowns m.sizes.reach) m.rows
+Ready m = AllByRecursion (Difference m.sizes.unknowns m.sizes.reach) m.rows
 
 abbrev pub Reads : Meaning → (Differences → Option ℤ) → Option ℤ → Type 0
 Reads m f o = (D : Differences) → Tabled m.sizes.unknowns m.rows D → o ≡ f D

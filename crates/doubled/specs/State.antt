@@ -3,7 +3,7 @@
 -- Takes: a row that is accepted below.   with-images: the meaning below after a row.
 -- own: what the layer means.   Sound: the state is as the methods need it.     Started: when a doubled theory starts.
 use Rattle.std.specs.Prelude.{◌≡◌, ℕ, ◌<◌, ◌≤◌, List, [], ◌∷◌, ◌++◌, map, length, take, ℤ, None, Ok, Err, vec_items, vec_capacity, Result, ◌≢◌, unsigned_abs}
-use Rattle.std.specs.List.{AllByRecursion as All}
+use Rattle.std.specs.List.{AllByRecursion}
 use Rattle.theory.specs.declared.refusal.Refusal.TheVariants.{Unfit}
 use Rattle.theory.specs.declared.row.Row.{Row}
 use Rattle.theory.specs.Meaning.{Meaning, empty}
@@ -31,7 +31,7 @@ pub record Over (m b : Meaning) : Type 0 where
   pub rows : b.rows ≡ sent m.rows
   pub levels : b.levels ≡ marks m.rows m.levels
   pub rising : Rising 0 m.levels (length m.rows)
-  pub fair : All (λ r. row_fault (half_sizes b.sizes) r ≡ None) m.rows
+  pub fair : AllByRecursion (λ r. row_fault (half_sizes b.sizes) r ≡ None) m.rows
   pub rows_fit : length m.rows ≤ m.sizes.space
   pub point : Feasible m.rows
 

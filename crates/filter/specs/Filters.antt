@@ -3,7 +3,7 @@
 -- Over: what a filter means, beside what the theory below means.   Passed: what becomes of the rows below when a row is passed on.
 -- own: what the filter means.   Sound: the state is as the methods need it.   Started: when a filter starts.
 use Rattle.std.specs.Prelude.{◌≡◌, ℕ, ◌≤◌, ◌⊎◌, List, [], ◌∷◌, ◌++◌, length, take, Ok, Err, vec_items, vec_capacity, Result, ◌≢◌}
-use Rattle.std.specs.List.{AllByRecursion as All}
+use Rattle.std.specs.List.{AllByRecursion}
 use Rattle.theory.specs.declared.refusal.Refusal.{Refusal}
 use Rattle.theory.specs.declared.refusal.Refusal.TheVariants.{Contradiction, Unfit}
 use Rattle.theory.specs.declared.row.Row.{Row}
@@ -17,8 +17,8 @@ use Rattle.filter.specs.declared.Unstarted.{Unstarted}
 -- no more rows, and the same points
 pub record Filtered (rows kept : List Row) : Type 0 where
   pub fewer : length kept ≤ length rows
-  pub to : (p : Point) → All (Meets p) rows → All (Meets p) kept
-  pub from : (p : Point) → All (Meets p) kept → All (Meets p) rows
+  pub to : (p : Point) → AllByRecursion (Meets p) rows → AllByRecursion (Meets p) kept
+  pub from : (p : Point) → AllByRecursion (Meets p) kept → AllByRecursion (Meets p) rows
 
 -- the levels opened at rising numbers of rows, here from low on and below from base on
 abbrev pub Stack : (low base : ℕ) → (rows kept : List Row) → (levels marks : List ℕ) → Type 0
@@ -36,7 +36,7 @@ pub record Over (m b : Meaning) : Type 0 where
 
 -- the row is implied, or it is put; refused, no point would be left
 abbrev pub Passed : Meaning → Row → Result (Unit {0}) Refusal → Meaning → Type 0
-Passed m r (Ok _) n = Feasible (m.rows ++ r ∷ []) × (((n ≡ m) × ((p : Point) → All (Meets p) m.rows → Meets p r)) ⊎ (n ≡ with_row m r))
+Passed m r (Ok _) n = Feasible (m.rows ++ r ∷ []) × (((n ≡ m) × ((p : Point) → AllByRecursion (Meets p) m.rows → Meets p r)) ⊎ (n ≡ with_row m r))
 Passed m r (Err e) n = (e ≡ Contradiction) × (Feasible (m.rows ++ r ∷ []) → ⊥) × (n ≡ m)
 
 -- the rows and levels that the filter itself keeps, and the sizes below

@@ -1,7 +1,7 @@
 -- Rows filtered and not have the same points, so they agree in what they leave possible and in the greatest values. Assumes nothing.
 use Rattle.std.specs.Prelude.{List, [], ◌∷◌, ◌++◌, ℤ, Some, None, Option}
 use Rattle.std.proofs.Common.{arith}
-use Rattle.std.specs.List.{AllByRecursion as All}
+use Rattle.std.specs.List.{AllByRecursion}
 use Rattle.std.proofs.ByRecursion.{All-push}
 use Rattle.std.proofs.lemmas.List.{length_push}
 use Rattle.theory.specs.declared.row.Row.{Row}
@@ -9,7 +9,7 @@ use Rattle.theory.specs.declared.row.Side.{Side}
 use Rattle.theory.specs.Rows.{Point, Meets, Feasible, Greatest}
 use Rattle.filter.specs.Filters.{Filtered}
 
-all_front : (P : Row → Type 0) (rows : List Row) (r : Row) → All P (rows ++ r ∷ []) → All P rows × P r
+all_front : (P : Row → Type 0) (rows : List Row) (r : Row) → AllByRecursion P (rows ++ r ∷ []) → AllByRecursion P rows × P r
 all_front P [] r h = (tt, h.0)
 all_front P (x ∷ rows) r h = let rest = all_front P rows r h.1 in ((h.0, rest.0), rest.1)
 
@@ -30,7 +30,7 @@ module _ (rows kept : List Row) (f : Filtered rows kept) where
   }
 
   -- an implied row is held back
-  pub filtered_held : (r : Row) → ((p : Point) → All (Meets p) kept → Meets p r) → Filtered (rows ++ r ∷ []) kept
+  pub filtered_held : (r : Row) → ((p : Point) → AllByRecursion (Meets p) kept → Meets p r) → Filtered (rows ++ r ∷ []) kept
   filtered_held r implied = record {
     fewer = omega (arith, f.fewer, length_push rows r);
     to = λ p h. f.to p (all_front (Meets p) rows r h).0;

@@ -1,7 +1,7 @@
 -- What each step makes of what a filter means and of what the theory below means. Assumes nothing.
 use Rattle.std.specs.Prelude.{◌≡◌, ℕ, ◌+◌, ◌-◌, ◌<◌, ◌≤◌, ◌⊎◌, List, [], ◌∷◌, ◌++◌, length, take, ℤ, ◌≤ℤ◌, Some, None, Ok, Err, vec_items, vec_capacity, Option, Result, refl}
 use Rattle.std.proofs.Common.{sym, ap, subst, ◌∙◌, inl, inr, arith}
-use Rattle.std.specs.List.{AllByRecursion as All}
+use Rattle.std.specs.List.{AllByRecursion}
 use Rattle.std.proofs.lemmas.List.{length_push, length-take-le, take_all, take_more}
 use Rattle.std.proofs.ByRecursion.{All-push}
 use Rattle.std.proofs.lemmas.Int.{ints}
@@ -32,7 +32,7 @@ module _ (m b : Meaning) (o : Over m b) where
     held_stack : Stack 0 0 (m.rows ++ r ∷ []) b.rows m.levels b.levels
     held_stack = stack_held 0 0 m.rows b.rows m.levels b.levels r o.stack
 
-    over_held : ((p : Point) → All (Meets p) b.rows → Meets p r) → Over (with_row m r) b
+    over_held : ((p : Point) → AllByRecursion (Meets p) b.rows → Meets p r) → Over (with_row m r) b
     over_held implied = record {
       sizes = o.sizes;
       same = filtered_held _ _ o.same r implied;
@@ -48,7 +48,7 @@ module _ (m b : Meaning) (o : Over m b) where
       rows_fit = omega (arith, length_push m.rows r);
     }
 
-    pub over_passed : (n : Meaning) → ((n ≡ b) × ((p : Point) → All (Meets p) b.rows → Meets p r)) ⊎ (n ≡ with_row b r) → Over (with_row m r) n
+    pub over_passed : (n : Meaning) → ((n ≡ b) × ((p : Point) → AllByRecursion (Meets p) b.rows → Meets p r)) ⊎ (n ≡ with_row b r) → Over (with_row m r) n
     over_passed n (inl h) = subst (Over (with_row m r)) (sym h.0) (over_held h.1)
     over_passed n (inr e) = subst (Over (with_row m r)) (sym e) over_put
 
@@ -82,7 +82,7 @@ passed_by_put m b n r a is fair h = by a (rw is at h)
 -- a row whose side has a greatest value of c or less is implied
 pub passed_by_bound : (m n : Meaning) (r : Row) (most : ℤ) → n ≡ m → Sane m → Greatest m.rows r.side (Some most) → most ≤ℤ r.c → Passed m r (Ok tt) n
 passed_by_bound m n r most is sane g under =
-    let implied : (p : Point) → All (Meets p) m.rows → Meets p r = λ p h. let top = g.0 p h in omega (arith, ints) in
+    let implied : (p : Point) → AllByRecursion (Meets p) m.rows → Meets p r = λ p h. let top = g.0 p h in omega (arith, ints) in
     let point = sane.point in
     ((point.0, All-push (Meets point.0) m.rows r point.1 (implied point.0 point.1)), inl (is, implied))
 

@@ -1,6 +1,6 @@
 -- What every run from an empty meaning keeps: the rows have a point and pass their rules, the counts fit the sizes, and the levels rise to the number of rows. Assumes nothing.
 use Rattle.std.proofs.Common.{◌≡◌, ℕ, ◌+◌, ◌-◌, ◌<◌, ◌≤◌, List, [], ◌∷◌, ◌++◌, length, take, pos, None, Ok, Err, sym, refl, ap, ◌∙◌, subst, arith}
-use Rattle.std.specs.List.{AllByRecursion as All}
+use Rattle.std.specs.List.{AllByRecursion}
 use Rattle.std.proofs.lemmas.List.{length_push, length-take, length-take-le, take_more, take_all}
 use Rattle.std.proofs.ByRecursion.{All-push, All-take}
 use Rattle.std.proofs.lemmas.Bool.{leb-false}
@@ -24,7 +24,7 @@ Passed z r = row_fault z r ≡ None
 pub record Orderly (z : Sizes) (m : Meaning) : Type 0 where
   pub fixed : m.sizes ≡ z
   pub point : Feasible m.rows
-  pub passed : All (Passed m.sizes) m.rows
+  pub passed : AllByRecursion (Passed m.sizes) m.rows
   pub rows_fit : length m.rows ≤ m.sizes.space
   pub levels_fit : length m.levels ≤ m.sizes.depth
   pub rising : Rising 0 m.levels (length m.rows)

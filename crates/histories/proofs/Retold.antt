@@ -1,6 +1,6 @@
 -- A new engine that is told what stands after a run takes all of it. Assumes nothing.
 use Rattle.std.proofs.Common.{◌≡◌, ℕ, ◌+◌, ◌-◌, ◌<◌, ◌≤◌, List, [], ◌∷◌, ◌++◌, map, length, take, drop, Ok, sym, refl, ap, subst, arith}
-use Rattle.std.specs.List.{AllByRecursion as All}
+use Rattle.std.specs.List.{AllByRecursion}
 use Rattle.std.proofs.lemmas.List.{append-nil, append_assoc, length-append, map-append, take-append-drop, take-take, length-take-le, take_at, drop-take, length-map, length-drop}
 use Rattle.std.proofs.ByRecursion.{All-take}
 use Rattle.std.proofs.lemmas.Bool.{lt-leb}
@@ -23,7 +23,7 @@ standing z rows levels = record { rows = rows; levels = levels; sizes = z }
 -- a list of rows that may stand
 record Fit (z : Sizes) (rows : List Row) : Type 0 where
   point : Feasible rows
-  passed : All (Passed z) rows
+  passed : AllByRecursion (Passed z) rows
   room : length rows ≤ z.space
 
 fit_take : (z : Sizes) (n : ℕ) (rows : List Row) → n ≤ length rows → Fit z rows → Fit z (take n rows)
@@ -37,7 +37,7 @@ fit_take z n rows within f = record {
 fit_front : (z : Sizes) (xs ys : List Row) → Fit z (xs ++ ys) → Fit z xs
 fit_front z xs ys f = subst (Fit z) (take_at xs ys (length xs) refl) (fit_take z (length xs) (xs ++ ys) (simp length-append (omega arith)) f)
 
-all_last : (P : Row → Type 0) (xs : List Row) (x : Row) → All P (xs ++ x ∷ []) → P x
+all_last : (P : Row → Type 0) (xs : List Row) (x : Row) → AllByRecursion P (xs ++ x ∷ []) → P x
 all_last P [] x h = h.0
 all_last P (y ∷ xs) x h = all_last P xs x h.1
 

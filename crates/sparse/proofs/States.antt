@@ -1,6 +1,6 @@
 -- What a step makes of a sound state: it stays sound, and its meaning changes as the step says. Assumes nothing.
 use Rattle.std.proofs.Common.{◌≡◌, ℕ, ◌-◌, ◌<◌, ◌≤◌, List, [], ◌∷◌, ◌++◌, length, get_or, take, sym, refl, ap, ◌∙◌, subst, ⊎_elim, arith}
-use Rattle.std.specs.List.{AllWithin, AllByRecursion as All}
+use Rattle.std.specs.List.{AllWithin, AllByRecursion}
 use Rattle.std.proofs.lemmas.List.{length-map, length_push, length-take-le, map_push, take-map, take-append-le, take-take, take_all, get_or-take, get_or_push, get_or_append_left}
 use Rattle.std.proofs.lemmas.Bool.{cases_lt}
 use Rattle.theory.specs.declared.row.Row.{Row}
@@ -19,7 +19,7 @@ use Rattle.sparse.specs.State.{Sound, Ready, meaning_of}
 use Rattle.sparse.specs.Sanity.{sound_feasible}
 use Rattle.sparse.proofs.Rows.{keeps_from_all, met_from_meets}
 
-all_front : (P : Row → Type 0) (rows : List Row) (r : Row) → All P (rows ++ r ∷ []) → All P rows × P r
+all_front : (P : Row → Type 0) (rows : List Row) (r : Row) → AllByRecursion P (rows ++ r ∷ []) → AllByRecursion P rows × P r
 all_front P [] r h = (tt, h.0)
 all_front P (x ∷ rows) r h = let rest = all_front P rows r h.1 in ((h.0, rest.0), rest.1)
 

@@ -1,7 +1,7 @@
 -- The law of theories, met by the sparse bottom: what a sound state means has a point, and fits its sizes. Assumes nothing.
 use Rattle.std.specs.Prelude.{List, length}
 use Rattle.std.proofs.Common.{get_or, arith}
-use Rattle.std.specs.List.{AllWithin, AllByRecursion as All}
+use Rattle.std.specs.List.{AllWithin, AllByRecursion}
 use Rattle.std.proofs.ByRecursion.{All-map, all_from_every}
 use Rattle.std.proofs.lemmas.Int.{ints}
 use Rattle.std.proofs.lemmas.List.{length-map}
@@ -19,7 +19,7 @@ pub meets_from_met : (x : Point) (e : Edge) → Fair e.row → Met x e → Meets
 meets_from_met x e fair h = let is = (ends_of e.row.side (fair_side e.row fair)).is x in rw is (omega (arith, ints))
 
 -- a point that keeps fair edges meets their rows
-pub all_from_keeps : (x : Point) (es : List Edge) → AllWithin (λ e. Fair e.row) es 0 (length es) → Keeps x es → All (Meets x) (rows_in es)
+pub all_from_keeps : (x : Point) (es : List Edge) → AllWithin (λ e. Fair e.row) es 0 (length es) → Keeps x es → AllByRecursion (Meets x) (rows_in es)
 all_from_keeps x es fair h = All-map (Meets x) (λ (e : Edge). e.row) es (all_from_every (λ e. Meets x e.row) es (λ k d low high. meets_from_met x (get_or es k d) (fair k d low high) (h k d low high)))
 
 pub sound_feasible : (s : Sparse) → Sound s → Feasible (rows_in (edges_of s.graph))

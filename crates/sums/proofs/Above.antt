@@ -1,7 +1,7 @@
 -- The table of the greatest differences of what rows are sent down as gives, made tight, the greatest values of the rows themselves. Assumes nothing.
 use Rattle.std.proofs.Common.{◌≡◌, ℕ, ◌/◌, ◌<◌, ◌≤◌, List, ℤ, ◌≤ℤ◌, Some, None, Option, refl, arith}
 use lib.Signed.{≤ℤ_refl}
-use Rattle.std.specs.List.{AllByRecursion as All}
+use Rattle.std.specs.List.{AllByRecursion}
 use Rattle.std.proofs.lemmas.Int.{ints}
 use Rattle.theory.specs.declared.row.Row.{Row}
 use Rattle.theory.specs.declared.sizes.Sizes.{Sizes}
@@ -38,7 +38,7 @@ greatest_turned rows s t o g = by o g
     by (Some m) g = (λ p h. rw (back p) at (g.0 (turned p) (sent_turned p rows h)), (turned g.1.0, sent_turned g.1.0 rows g.1.1, rw (turns g.1.0) g.1.2))
     by None g = λ m. let w = g m in (turned w.0, sent_turned w.0 rows w.1, rw (turns w.0) w.2)
 
-module _ (z : Sizes) (rows : List Row) (fair : All (Fair z) rows) (D : Differences) (t : Tabled z.unknowns (sent rows) D) where
+module _ (z : Sizes) (rows : List Row) (fair : AllByRecursion (Fair z) rows) (D : Differences) (t : Tabled z.unknowns (sent rows) D) where
   abbrev n : ℕ
   n = z.unknowns / 2
 
@@ -54,7 +54,7 @@ module _ (z : Sizes) (rows : List Row) (fair : All (Fair z) rows) (D : Differenc
       greatest_unique (sent rows) (differ s r) _ _ (greatest_below s r s_in r_in) turned_one
 
   -- the points that meet the rows are those that keep the tight table
-  meets_keeps : (p : Point) → All (Meets p) rows → Keeps n p (tight D)
+  meets_keeps : (p : Point) → AllByRecursion (Meets p) rows → Keeps n p (tight D)
   meets_keeps p h = tight_kept n D p (λ s r s_in r_in. rw (← spread_code p s, ← spread_code p r) (t.keeps (spread p) (sent_met z p rows fair h) (code s) (code r) (inside s s_in) (inside r r_in)))
 
   mirrored_table : Feasible rows → Mirrored n D
@@ -70,15 +70,15 @@ module _ (z : Sizes) (rows : List Row) (fair : All (Fair z) rows) (D : Differenc
   }
 
   module _ (point : Feasible rows) where
-    keeps_meets : (p : Point) → Keeps n p (tight D) → All (Meets p) rows
+    keeps_meets : (p : Point) → Keeps n p (tight D) → AllByRecursion (Meets p) rows
     keeps_meets p kept = sent_meets z D p kept rows fair t.has
 
     -- terms come up to every number that their bound allows
-    comes_to : (ts : Terms) → Within n ts → (x : ℤ) → Allows (greatest_by D ts) x → (p : Point) × All (Meets p) rows × (x ≤ℤ value_by p ts)
+    comes_to : (ts : Terms) → Within n ts → (x : ℤ) → Allows (greatest_by D ts) x → (p : Point) × AllByRecursion (Meets p) rows × (x ≤ℤ value_by p ts)
     comes_to (One s) w x ok = let f = tight_attained n D (mirrored_table point) (lit s) w x ok in (f.0, keeps_meets f.0 f.1, f.2)
     comes_to (Two s r) w x ok = let f = attained n (tight D) (tight_strong n D (mirrored_table point)) (lit s) (lit r) w.0 w.1 x ok in (f.0, keeps_meets f.0 f.1, f.2)
 
-    stays_under : (ts : Terms) → Within n ts → (p : Point) → All (Meets p) rows → Allows (greatest_by D ts) (value_by p ts)
+    stays_under : (ts : Terms) → Within n ts → (p : Point) → AllByRecursion (Meets p) rows → Allows (greatest_by D ts) (value_by p ts)
     stays_under (One s) w p h = tight_allows n D p (meets_keeps p h) (lit s) w
     stays_under (Two s r) w p h = meets_keeps p h (lit s) (lit r) w.0 w.1
 

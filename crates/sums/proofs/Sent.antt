@@ -1,6 +1,6 @@
 -- What rows are sent down as: how many they are, that they bound differences, and which points meet them. Assumes nothing.
 use Rattle.std.proofs.Common.{◌≡◌, ◌+◌, ◌*◌, ◌/◌, ◌<◌, ◌≤◌, List, [], ◌∷◌, ◌++◌, length, ℤ, ◌+ℤ◌, neg_ℤ, nat_abs, ◌≤ℤ◌, None, sym, refl, ap, ◌∙◌, append_assoc, append-nil, arith, length-append}
-use Rattle.std.specs.List.{AllByRecursion as All}
+use Rattle.std.specs.List.{AllByRecursion}
 use Rattle.std.proofs.ByRecursion.{All-append}
 use Rattle.std.proofs.lemmas.Int.{ints}
 use Rattle.theory.specs.declared.row.Row.{Row}
@@ -34,11 +34,11 @@ pub sent_few : (rows : List Row) → length (sent rows) ≤ 2 * length rows
 sent_few [] = omega arith
 sent_few (r ∷ rows) = rw (length-append (images (terms_of r.side) r.c) (sent rows)) (omega (arith, images_few (terms_of r.side) r.c, sent_few rows))
 
-pub all_parts : (P : Row → Type 0) (xs ys : List Row) → All P (xs ++ ys) → All P xs × All P ys
+pub all_parts : (P : Row → Type 0) (xs ys : List Row) → AllByRecursion P (xs ++ ys) → AllByRecursion P xs × AllByRecursion P ys
 all_parts P [] ys h = (tt, h)
 all_parts P (x ∷ xs) ys h = let rest = all_parts P xs ys h.1 in ((h.0, rest.0), rest.1)
 
-pub sent_turned : (p : Point) (rows : List Row) → All (Meets p) (sent rows) → All (Meets (turned p)) (sent rows)
+pub sent_turned : (p : Point) (rows : List Row) → AllByRecursion (Meets p) (sent rows) → AllByRecursion (Meets (turned p)) (sent rows)
 sent_turned p [] h = tt
 sent_turned p (r ∷ rows) h =
     let parts = all_parts (Meets p) (images (terms_of r.side) r.c) (sent rows) h in
@@ -55,15 +55,15 @@ pub fair_near : (z : Sizes) (r : Row) → Fair z r → nat_abs r.c ≤ z.reach /
 fair_near z r h = grind arith
 
 module _ (z : Sizes) where
-  pub images_fair : (r : Row) → Fair z r → All (Difference z.unknowns z.reach) (images (terms_of r.side) r.c)
+  pub images_fair : (r : Row) → Fair z r → AllByRecursion (Difference z.unknowns z.reach) (images (terms_of r.side) r.c)
   images_fair r h = images_near (z.unknowns / 2) z.unknowns (omega arith) z.reach (terms_of r.side) r.c (said_of (half_sizes z) r.side (fair_side z r h)).within (omega (arith, fair_near z r h))
 
-  pub sent_fair : (rows : List Row) → All (Fair z) rows → All (Difference z.unknowns z.reach) (sent rows)
+  pub sent_fair : (rows : List Row) → AllByRecursion (Fair z) rows → AllByRecursion (Difference z.unknowns z.reach) (sent rows)
   sent_fair [] h = tt
   sent_fair (r ∷ rows) h = All-append (Difference z.unknowns z.reach) (images (terms_of r.side) r.c) (sent rows) (images_fair r h.0) (sent_fair rows h.1)
 
   -- a point that meets the rows, spread out, meets what they are sent as
-  pub sent_met : (p : Point) (rows : List Row) → All (Fair z) rows → All (Meets p) rows → All (Meets (spread p)) (sent rows)
+  pub sent_met : (p : Point) (rows : List Row) → AllByRecursion (Fair z) rows → AllByRecursion (Meets p) rows → AllByRecursion (Meets (spread p)) (sent rows)
   sent_met p [] fair h = tt
   sent_met p (r ∷ rows) fair h =
       let said = said_of (half_sizes z) r.side (fair_side z r fair.0) in
@@ -71,13 +71,13 @@ module _ (z : Sizes) where
 
   module _ (D : Differences) (p : Point) (kept : Keeps (z.unknowns / 2) p (tight D)) where
     -- a point that keeps the tight table of a table that has the images of a row meets the row
-    image_meets : (ts : Terms) (c : ℤ) → Within (z.unknowns / 2) ts → All (Bounds D) (images ts c) → value_by p ts ≤ℤ c
+    image_meets : (ts : Terms) (c : ℤ) → Within (z.unknowns / 2) ts → AllByRecursion (Bounds D) (images ts c) → value_by p ts ≤ℤ c
     image_meets (One s) c w has =
         let bound = between (tight D (lit s) (mirror (lit s))) (c +ℤ c) _ (least_left (D (code (lit s)) (code (mirror (lit s)))) (by_halves D (lit s) (mirror (lit s))) (c +ℤ c) has.0) (kept (lit s) (mirror (lit s)) w (mirrored (λ k. k < z.unknowns / 2) (lit s) w)) in
         omega (arith, ints, bound, at_mirror p (lit s))
     image_meets (Two s t) c w has = between (tight D (lit s) (lit t)) c _ (least_left (D (code (lit s)) (code (lit t))) (by_halves D (lit s) (lit t)) c has.0) (kept (lit s) (lit t) w.0 w.1)
 
-    pub sent_meets : (rows : List Row) → All (Fair z) rows → All (Bounds D) (sent rows) → All (Meets p) rows
+    pub sent_meets : (rows : List Row) → AllByRecursion (Fair z) rows → AllByRecursion (Bounds D) (sent rows) → AllByRecursion (Meets p) rows
     sent_meets [] fair has = tt
     sent_meets (r ∷ rows) fair has =
         let said = said_of (half_sizes z) r.side (fair_side z r fair.0) in

@@ -1,6 +1,6 @@
 -- What the terms of a side come to, and what the images of a row say of points. Assumes nothing.
 use Rattle.std.proofs.Common.{◌≡◌, ℕ, ◌*◌, ◌<◌, ◌≤◌, ℤ, ◌+ℤ◌, ◌-ℤ◌, neg_ℤ, nat_abs, ◌≤ℤ◌, None, sym, ap, arith}
-use Rattle.std.specs.List.{AllByRecursion as All}
+use Rattle.std.specs.List.{AllByRecursion}
 use Rattle.std.proofs.lemmas.Int.{ints}
 use Rattle.theory.specs.declared.row.Sign.{Sign}
 use Rattle.theory.specs.declared.row.Sign.TheVariants.{Zero, Plus, Minus}
@@ -54,7 +54,7 @@ row_said : (p : Point) (s t : Literal) (c : ℤ) → Meets p (row_of s t c) → 
 row_said p s t c h = omega (arith, ints)
 
 -- a point above that meets a row, spread out, meets the images
-pub images_met : (p : Point) (ts : Terms) (c : ℤ) → value_by p ts ≤ℤ c → All (Meets (spread p)) (images ts c)
+pub images_met : (p : Point) (ts : Terms) (c : ℤ) → value_by p ts ≤ℤ c → AllByRecursion (Meets (spread p)) (images ts c)
 images_met p (One s) c h =
     (row_says (spread p) (lit s) (mirror (lit s)) (c +ℤ c) (rw (spread_code p (lit s), spread_code p (mirror (lit s)), at_mirror p (lit s)) (omega (arith, ints))), tt)
 images_met p (Two s t) c h = (
@@ -73,7 +73,7 @@ pub turned_back : (p : Point) (s : Literal) → turned p (code (mirror s)) ≡ n
 turned_back p s = rw (turned_code p (mirror s), mirror_mirror s)
 
 -- the images of a row come in mirrored pairs
-pub images_turned : (p : Point) (ts : Terms) (c : ℤ) → All (Meets p) (images ts c) → All (Meets (turned p)) (images ts c)
+pub images_turned : (p : Point) (ts : Terms) (c : ℤ) → AllByRecursion (Meets p) (images ts c) → AllByRecursion (Meets (turned p)) (images ts c)
 images_turned p (One s) c h =
     let was = row_said p (lit s) (mirror (lit s)) (c +ℤ c) h.0 in
     (row_says (turned p) (lit s) (mirror (lit s)) (c +ℤ c) (rw (turned_code p (lit s), turned_back p (lit s)) (omega (arith, ints))), tt)
@@ -89,7 +89,7 @@ module _ (n N : ℕ) (half : 2 * n ≤ N) where
   differ_ends s t s_in t_in = record { first_in = code_in n N s s_in (omega arith); second_in = code_in n N t t_in (omega arith); is = λ p. omega (arith, ints) }
 
   -- the images bound differences, twice as far from 0 at most
-  pub images_near : (reach : ℕ) (ts : Terms) (c : ℤ) → Within n ts → 2 * nat_abs c ≤ reach → All (Difference N reach) (images ts c)
+  pub images_near : (reach : ℕ) (ts : Terms) (c : ℤ) → Within n ts → 2 * nat_abs c ≤ reach → AllByRecursion (Difference N reach) (images ts c)
   images_near reach (One s) c w l = (record { ends = differ_ends (lit s) (mirror (lit s)) w (mirrored (λ k. k < n) (lit s) w); near = omega (arith, ints) }, tt)
   images_near reach (Two s t) c w l = (
     record { ends = differ_ends (lit s) (lit t) w.0 w.1; near = omega arith },
