@@ -1,2 +1,5 @@
 pub mod Computed
+pub mod Levels
+pub mod Questions
 pub mod Sending
+pub mod States

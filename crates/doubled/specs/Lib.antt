@@ -1,5 +1,3 @@
 pub mod Asking
 pub mod State
-pub mod States
-pub mod Levels
-pub mod Questions
+pub mod Sanity

@@ -17,13 +17,13 @@ use theory::row::Row;
 
 // The greatest s − t below.
 fn difference<T: Theory>(below: &mut T, s: Literal, t: Literal) -> Option<i64>
-    requires sound { sound below.old }
-    requires ready { Ready (meaning below.old) }
-    requires first { code (lit s) < (meaning below.old).sizes.unknowns }
-    requires second { code (lit t) < (meaning below.old).sizes.unknowns }
+    requires sound { T.sound below.old }
+    requires ready { Ready (T.meaning below.old) }
+    requires first { code (lit s) < (T.meaning below.old).sizes.unknowns }
+    requires second { code (lit t) < (T.meaning below.old).sizes.unknowns }
     requires apart { code (lit s) ≢ code (lit t) }
-    ensures kept { sound below.new }
-    ensures answers { Answered far (meaning below.old) (λ D. D (code (lit s)) (code (lit t))) result (meaning below.new) }
+    ensures kept { T.sound below.new }
+    ensures answers { Answered far (T.meaning below.old) (λ D. D (code (lit s)) (code (lit t))) result (T.meaning below.new) }
 {
     let Ok(most) = below.tightest(s.minus(t)) else {
         unreachable()
@@ -33,11 +33,11 @@ fn difference<T: Theory>(below: &mut T, s: Literal, t: Literal) -> Option<i64>
 
 // The greatest s − mirror(s) below, halved.
 fn half<T: Theory>(below: &mut T, s: Literal) -> Option<i64>
-    requires sound { sound below.old }
-    requires ready { Ready (meaning below.old) }
-    requires within { Within (half_sizes (meaning below.old).sizes).unknowns (One s) }
-    ensures kept { sound below.new }
-    ensures answers { Answered far (meaning below.old) (λ D. alone D (lit s)) result (meaning below.new) }
+    requires sound { T.sound below.old }
+    requires ready { Ready (T.meaning below.old) }
+    requires within { Within (half_sizes (T.meaning below.old).sizes).unknowns (One s) }
+    ensures kept { T.sound below.new }
+    ensures answers { Answered far (T.meaning below.old) (λ D. alone D (lit s)) result (T.meaning below.new) }
 {
     let most = difference(below, s, s.mirror())?;
     Some(halved(most))
@@ -45,12 +45,12 @@ fn half<T: Theory>(below: &mut T, s: Literal) -> Option<i64>
 
 // half(s) + half(t), where both are there.
 fn sum_of_halves<T: Theory>(below: &mut T, s: Literal, t: Literal) -> Option<i64>
-    requires sound { sound below.old }
-    requires ready { Ready (meaning below.old) }
-    requires first { Within (half_sizes (meaning below.old).sizes).unknowns (One s) }
-    requires second { Within (half_sizes (meaning below.old).sizes).unknowns (One t) }
-    ensures kept { sound below.new }
-    ensures answers { Answered further (meaning below.old) (λ D. sum_of (alone D (lit s)) (alone D (lit t))) result (meaning below.new) }
+    requires sound { T.sound below.old }
+    requires ready { Ready (T.meaning below.old) }
+    requires first { Within (half_sizes (T.meaning below.old).sizes).unknowns (One s) }
+    requires second { Within (half_sizes (T.meaning below.old).sizes).unknowns (One t) }
+    ensures kept { T.sound below.new }
+    ensures answers { Answered further (T.meaning below.old) (λ D. sum_of (alone D (lit s)) (alone D (lit t))) result (T.meaning below.new) }
 {
     let a = half(below, s)?;
     let b = half(below, t)?;
@@ -59,11 +59,11 @@ fn sum_of_halves<T: Theory>(below: &mut T, s: Literal, t: Literal) -> Option<i64
 
 // The lesser of the difference and the sum of halves, or the half.
 pub fn tight<T: Theory>(below: &mut T, terms: Terms) -> Option<i64>
-    requires sound { sound below.old }
-    requires ready { Ready (meaning below.old) }
-    requires within { Within (half_sizes (meaning below.old).sizes).unknowns terms }
-    ensures kept { sound below.new }
-    ensures answers { Answered further (meaning below.old) (λ D. greatest_by D terms) result (meaning below.new) }
+    requires sound { T.sound below.old }
+    requires ready { Ready (T.meaning below.old) }
+    requires within { Within (half_sizes (T.meaning below.old).sizes).unknowns terms }
+    ensures kept { T.sound below.new }
+    ensures answers { Answered further (T.meaning below.old) (λ D. greatest_by D terms) result (T.meaning below.new) }
 {
     match terms {
         Terms::One(s) => half(below, s),
@@ -77,10 +77,10 @@ pub fn tight<T: Theory>(below: &mut T, terms: Terms) -> Option<i64>
 
 // Puts s − t ≤ c below, where nothing speaks against it.
 fn put_below<T: Theory>(below: &mut T, s: Literal, t: Literal, c: i64)
-    requires sound { sound below.old }
-    requires takes { Takes (meaning below.old) (lit s) (lit t) c }
-    ensures kept { sound below.new }
-    ensures after { meaning below.new ≡ with_row (meaning below.old) (row_of (lit s) (lit t) c) }
+    requires sound { T.sound below.old }
+    requires takes { Takes (T.meaning below.old) (lit s) (lit t) c }
+    ensures kept { T.sound below.new }
+    ensures after { T.meaning below.new ≡ with_row (T.meaning below.old) (row_of (lit s) (lit t) c) }
 {
     let row = Row {
         side: s.minus(t),
@@ -91,13 +91,13 @@ fn put_below<T: Theory>(below: &mut T, s: Literal, t: Literal, c: i64)
 
 // Puts the images of a row below, where nothing speaks against them.
 pub fn send<T: Theory>(below: &mut T, terms: Terms, c: i64)
-    requires sound { sound below.old }
-    requires within { Within (half_sizes (meaning below.old).sizes).unknowns terms }
-    requires near { unsigned_abs c ≤ (half_sizes (meaning below.old).sizes).reach }
-    requires room { length (meaning below.old).rows + 2 ≤ (meaning below.old).sizes.space }
-    requires point { Feasible (with_images (meaning below.old) terms c).rows }
-    ensures kept { sound below.new }
-    ensures after { meaning below.new ≡ with_images (meaning below.old) terms c }
+    requires sound { T.sound below.old }
+    requires within { Within (half_sizes (T.meaning below.old).sizes).unknowns terms }
+    requires near { unsigned_abs c ≤ (half_sizes (T.meaning below.old).sizes).reach }
+    requires room { length (T.meaning below.old).rows + 2 ≤ (T.meaning below.old).sizes.space }
+    requires point { Feasible (with_images (T.meaning below.old) terms c).rows }
+    ensures kept { T.sound below.new }
+    ensures after { T.meaning below.new ≡ with_images (T.meaning below.old) terms c }
 {
     match terms {
         Terms::One(s) => put_below(below, s, s.mirror(), 2 * c),

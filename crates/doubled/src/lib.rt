@@ -24,7 +24,7 @@ ghost use Rattle.sums.specs.Terms.{Within, half_sizes};
 ghost use Rattle.doubled.specs.Asking.{further};
 ghost use Rattle.sums.specs.Greatest.{GreatestOf};
 ghost use Rattle.doubled.specs.State.{own, Sound, Started};
-ghost use Rattle.doubled.specs.States.{over_sane};
+ghost use Rattle.doubled.specs.Sanity.{over_sane};
 
 use below::{send, tight};
 use std::alloc::{AllocError, Global};
@@ -73,8 +73,8 @@ fn halves(sizes: Sizes) -> Sizes
 impl<T: Theory> Doubled<T> {
     // Starts over an empty theory only; otherwise, and for want of memory, the theory is handed back as it was.
     pub fn new(heap: Global, below: T) -> Result<Doubled<T>, Unstarted<T>>
-        requires { sound below }
-        ensures { Started sound meaning below result }
+        requires { T.sound below }
+        ensures { Started T.sound T.meaning below result }
     {
         if let Err(refusal) = check_empty(&below) {
             return Err(Unstarted {
@@ -104,11 +104,11 @@ impl<T: Theory> Doubled<T> {
 
     // The greatest value of the terms over the points that meet the standing rows.
     fn greatest(&mut self, terms: Terms) -> Option<i64>
-        requires sound { Sound sound meaning self.old }
-        requires within { Within (own meaning self.old).sizes.unknowns terms }
-        ensures kept { Sound sound meaning self.new }
-        ensures same { own meaning self.new ≡ own meaning self.old }
-        ensures value { GreatestOf (own meaning self.old).rows terms result }
+        requires sound { Sound T.sound T.meaning self.old }
+        requires within { Within (own T.meaning self.old).sizes.unknowns terms }
+        ensures kept { Sound T.sound T.meaning self.new }
+        ensures same { own T.meaning self.new ≡ own T.meaning self.old }
+        ensures value { GreatestOf (own T.meaning self.old).rows terms result }
         ensures near { Near further result }
     {
         tight(&mut self.below, terms)
@@ -116,11 +116,11 @@ impl<T: Theory> Doubled<T> {
 
     // Rule 7.
     fn check_point(&mut self, row: Row) -> Result<(), Refusal>
-        requires sound { Sound sound meaning self.old }
-        requires fair { row_fault (own meaning self.old).sizes row ≡ None }
-        ensures kept { Sound sound meaning self.new }
-        ensures same { own meaning self.new ≡ own meaning self.old }
-        ensures answers { PointChecked (own meaning self.old).rows row result }
+        requires sound { Sound T.sound T.meaning self.old }
+        requires fair { row_fault (own T.meaning self.old).sizes row ≡ None }
+        ensures kept { Sound T.sound T.meaning self.new }
+        ensures same { own T.meaning self.new ≡ own T.meaning self.old }
+        ensures answers { PointChecked (own T.meaning self.old).rows row result }
     {
         let Some(most) = self.greatest(Terms::of(row.side).opposite()) else {
             return Ok(());
@@ -132,12 +132,12 @@ impl<T: Theory> Doubled<T> {
     }
 
     fn accept(&mut self, row: Row)
-        requires sound { Sound sound meaning self.old }
-        requires fair { row_fault (own meaning self.old).sizes row ≡ None }
-        requires room { length (own meaning self.old).rows < (own meaning self.old).sizes.space }
-        requires point { Feasible ((own meaning self.old).rows ++ row ∷ []) }
-        ensures kept { Sound sound meaning self.new }
-        ensures after { own meaning self.new ≡ with_row (own meaning self.old) row }
+        requires sound { Sound T.sound T.meaning self.old }
+        requires fair { row_fault (own T.meaning self.old).sizes row ≡ None }
+        requires room { length (own T.meaning self.old).rows < (own T.meaning self.old).sizes.space }
+        requires point { Feasible ((own T.meaning self.old).rows ++ row ∷ []) }
+        ensures kept { Sound T.sound T.meaning self.new }
+        ensures after { own T.meaning self.new ≡ with_row (own T.meaning self.old) row }
     {
         send(&mut self.below, Terms::of(row.side), row.c);
         self.rows.push_reserved(row);
@@ -145,9 +145,9 @@ impl<T: Theory> Doubled<T> {
 }
 
 impl<T: Theory> Theory for Doubled<T> {
-    ghost meaning = { own T.Theory.meaning };
+    ghost meaning = { own T.meaning };
 
-    ghost sound = { Sound T.Theory.sound T.Theory.meaning };
+    ghost sound = { Sound T.sound T.meaning };
 
     ghost sane = { λ t s. over_sane _ _ s.over (T.Theory.sane t.below s.kept) };
 

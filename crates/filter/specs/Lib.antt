@@ -1,4 +1,2 @@
 pub mod Filters
-pub mod States
-pub mod Rows
-pub mod Stacks
+pub mod Sanity

@@ -10,7 +10,7 @@
 ghost use Rattle.std.specs.Prelude.{◌≡◌, None};
 ghost use Rattle.theory.specs.Calls.{put_fault};
 ghost use Rattle.filter.specs.Filters.{Passed, Sound, own, Started};
-ghost use Rattle.filter.specs.States.{over_sane};
+ghost use Rattle.filter.specs.Sanity.{over_sane};
 
 use std::alloc::{AllocError, Global};
 use theory::refusal::Refusal;
@@ -42,10 +42,10 @@ pub struct Unstarted<T> {
 
 // Puts the row below, unless the rows there bound its left side as tightly already.
 fn pass<T: Theory>(below: &mut T, row: Row) -> Result<(), Refusal>
-    requires sound { sound below.old }
-    requires fair { put_fault (meaning below.old) row ≡ None }
-    ensures kept { sound below.new }
-    ensures answers { Passed (meaning below.old) row result (meaning below.new) }
+    requires sound { T.sound below.old }
+    requires fair { put_fault (T.meaning below.old) row ≡ None }
+    ensures kept { T.sound below.new }
+    ensures answers { Passed (T.meaning below.old) row result (T.meaning below.new) }
 {
     if let Some(most) = below.tightest(row.side)? {
         if most <= row.c {
@@ -58,8 +58,8 @@ fn pass<T: Theory>(below: &mut T, row: Row) -> Result<(), Refusal>
 impl<T: Theory> Filter<T> {
     // Starts over an empty theory only; otherwise, and for want of memory, the theory is handed back as it was.
     pub fn new(heap: Global, below: T) -> Result<Filter<T>, Unstarted<T>>
-        requires { sound below }
-        ensures { Started sound meaning below result }
+        requires { T.sound below }
+        ensures { Started T.sound T.meaning below result }
     {
         if let Err(refusal) = check_empty(&below) {
             return Err(Unstarted {
@@ -89,9 +89,9 @@ impl<T: Theory> Filter<T> {
 }
 
 impl<T: Theory> Theory for Filter<T> {
-    ghost meaning = { own T.Theory.meaning };
+    ghost meaning = { own T.meaning };
 
-    ghost sound = { Sound T.Theory.sound T.Theory.meaning };
+    ghost sound = { Sound T.sound T.meaning };
 
     ghost sane = { λ t s. over_sane _ _ s.over (T.Theory.sane t.below s.kept) };
 

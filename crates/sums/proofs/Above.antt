@@ -1,5 +1,5 @@
 -- The table of the greatest differences of what rows are sent down as gives, made tight, the greatest values of the rows themselves. Assumes nothing.
-use Rattle.std.proofs.Common.{◌≡◌, ℕ, ◌/◌, ◌<◌, ◌≤◌, List, ℤ, ◌≤ℤ◌, Some, None, Option, refl, arith}
+use Rattle.std.proofs.Common.{◌≡◌, ℕ, ◌/◌, ◌<◌, List, ℤ, ◌≤ℤ◌, Some, None, Option, refl, arith}
 use lib.Signed.{≤ℤ_refl}
 use Rattle.std.specs.List.{AllByRecursion}
 use Rattle.std.proofs.lemmas.Int.{ints}

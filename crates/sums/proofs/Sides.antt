@@ -8,7 +8,7 @@ use Rattle.theory.specs.declared.row.Side.{Side}
 use Rattle.theory.specs.declared.sizes.Sizes.{Sizes}
 use Rattle.theory.specs.Rows.{Point, Meets, value}
 use Rattle.theory.specs.Rules.{side_fault}
-use Rattle.bounds.specs.Literals.{Literal, index, mirror, at}
+use Rattle.bounds.specs.Literals.{Literal, index, mirror}
 use Rattle.bounds.specs.Doubling.{code, literal, spread}
 use Rattle.bounds.proofs.Doubling.{code_in, literal_code, spread_code}
 use Rattle.bounds.proofs.Signs.{mirror_mirror, mirrored, at_mirror}

@@ -4,7 +4,7 @@ use Rattle.doubled.specs.declared.Doubled.{Doubled}
 use Rattle.sums.specs.Terms.{half_sizes}
 use Rattle.sums.proofs.Sent.{fair_side, fair_near}
 use Rattle.sums.proofs.Sides.{said_of}
-use Rattle.doubled.specs.States.{over_point, over_room, over_row, stepped}
+use Rattle.doubled.proofs.States.{over_point, over_room, over_row, stepped}
 use Rattle.doubled.proofs.Doubled.accept.Goals as goal
 
 pub send-requires : goal.send-requires
@@ -24,10 +24,10 @@ send-requires g c =
 pub returns : goal.returns
 returns g c =
     let d = c.args.self.now in
-    let e : Doubled g.row.T.Denot = record { below = c.send.new.below; rows = c.push-reserved.new.self; levels = d.levels } in
+    let e : Doubled g.row.T.Denot = record { below = c.send.new.below; rows = c.push_reserved.new.self; levels = d.levels } in
     let row = c.args.row in
     let fits : SFits w64 row.c = search rules in
     let below = rw (to_z-of_z w64 row.c fits, c.of.ensures) at c.send.ensures.after in
     let over = over_row _ _ c.requires.sound.over row c.requires.fair c.requires.room c.requires.point in
-    let after = stepped g.T.Theory.sound g.T.Theory.meaning d c.requires.sound e _ _ c.send.ensures.kept over refl c.push-reserved.ensures.items refl below c.push-reserved.ensures.capacity refl in
+    let after = stepped g.T.Theory.sound g.T.Theory.meaning d c.requires.sound e _ _ c.send.ensures.kept over refl c.push_reserved.ensures.items refl below c.push_reserved.ensures.capacity refl in
     record { kept = after.0; after = after.1 }

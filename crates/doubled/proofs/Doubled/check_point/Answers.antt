@@ -10,18 +10,18 @@ greatest-requires g c =
     let turned = rw c.of.ensures at c.opposite.ensures in
     record { sound = c.requires.sound; within = opposite_in z c.args.row c.requires.fair c.opposite.result turned }
 
-pub overflow-add-most : goal.overflow-add-most
-overflow-add-most g c =
+pub overflow_add-most : goal.overflow_add-most
+overflow_add-most g c =
     let d = c.args.self.now in
     let limits = (g.met.T.Theory.sane d.below c.requires.sound.kept).limits in
     let small : nat_abs c.args.row.c ≤ 2000000 = omega (arith, limits.reach, fair_near (g.T.Theory.meaning d.below).sizes c.args.row c.requires.fair) in
     sum_fits c.in-Some.most c.args.row.c c.in-Some.ensures.near small
 
-pub returns-in-default : goal.returns-in-default
-returns-in-default g c =
+pub returns-in_default : goal.returns-in_default
+returns-in_default g c =
     let z = (g.T.Theory.meaning c.args.self.now.below).sizes in
     let turned = opposite_is z c.args.row c.requires.fair c.opposite.result (rw c.of.ensures at c.opposite.ensures) in
-    let said = c.in-default.ensures in
+    let said = c.in_default.ensures in
     record { kept = said.kept; same = said.same; answers = point_if_none _ c.args.row c.opposite.result turned said.value }
 
 pub returns-then-most-row-lt0 : goal.returns-then-most-row-lt0

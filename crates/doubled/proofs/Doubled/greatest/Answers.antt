@@ -1,4 +1,4 @@
-use Rattle.doubled.specs.States.{over_ready, asked}
+use Rattle.doubled.proofs.States.{over_ready, asked}
 use Rattle.doubled.proofs.Doubled.greatest.Goals as goal
 
 pub tight-requires : goal.tight-requires

@@ -1,5 +1,5 @@
 use Rattle.sums.specs.Terms.{lit}
-use Rattle.doubled.specs.Questions.{asked_below}
+use Rattle.doubled.proofs.Questions.{asked_below}
 use Rattle.doubled.proofs.below.difference.Goals as goal
 
 pub returns : goal.returns

@@ -2,13 +2,14 @@ use Rattle.std.proofs.Common.{◌≡◌, ◌<◌, take, vec_items, vec_len, refl
 use Rattle.std.proofs.lemmas.Result.{err_from_is_err_and}
 use Rattle.theory.specs.Meaning.{newest}
 use Rattle.filter.specs.declared.Filter.{Filter}
-use Rattle.filter.specs.States.{over_long, over_pop, stepped, stayed}
+use Rattle.filter.specs.Sanity.{over_long}
+use Rattle.filter.proofs.States.{over_pop, stepped, stayed}
 use Rattle.filter.proofs.FilterTheory.pop.Goals as goal
 
-pub returns-in-err-pop : goal.returns-in-err-pop
-returns-in-err-pop g c =
-    let p = err_from_is_err_and c.from-residual.result c.from-residual.ensures.1 in
-    let said = c.in-err-pop.ensures in
+pub returns-in_err-pop : goal.returns-in_err-pop
+returns-in_err-pop g c =
+    let p = err_from_is_err_and c.from_residual.result c.from_residual.ensures.1 in
+    let said = c.in_err-pop.ensures in
     let after = stayed g.T.Theory.sound g.T.Theory.meaning c.args.self.now c.requires c.pop.new.self said.kept said.answers.2 in
     rw (p.1, p.2) record { kept = after.0; answers = (omega (arith, said.answers.0, over_long _ _ c.requires.over), said.answers.1, after.1) }
 
@@ -16,7 +17,7 @@ pub returns : goal.returns
 returns g c =
     let f = c.args.self.now in
     let e : Filter g.row.T.Denot = record { below = c.pop.new.self; rows = c.truncate.new.self; levels = c.pop-2.new.self } in
-    let said = c.in-ok-pop.ensures in
+    let said = c.in_ok-pop.ensures in
     let places = c.in-Some.ensures in
     let long = f.levels.ok.0 in
     let some : 0 < vec_len f.levels = omega (arith, said.answers.0, over_long _ _ c.requires.over) in

@@ -1,4 +1,4 @@
-use Rattle.filter.specs.States.{asked}
+use Rattle.filter.proofs.States.{asked}
 use Rattle.filter.proofs.FilterTheory.tightest.Goals as goal
 
 pub returns : goal.returns

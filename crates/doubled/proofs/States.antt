@@ -1,8 +1,8 @@
 -- What each step makes of what the layer means and of what the theory below means. Assumes nothing.
-use Rattle.std.specs.Prelude.{◌≡◌, ◌+◌, ◌-◌, ◌<◌, ◌≤◌, [], ◌∷◌, ◌++◌, length, take, ℤ, vec_items, vec_capacity, Option, refl}
+use Rattle.std.specs.Prelude.{◌≡◌, ◌+◌, ◌<◌, ◌≤◌, [], ◌∷◌, ◌++◌, length, ℤ, vec_items, vec_capacity, Option, refl}
 use Rattle.std.proofs.Common.{sym, ap, subst, ◌∙◌, arith}
 use Rattle.std.proofs.ByRecursion.{All-push, All-take}
-use Rattle.std.proofs.lemmas.List.{length-map, length_push, length-take-le}
+use Rattle.std.proofs.lemmas.List.{length_push, length-take-le}
 use Rattle.theory.specs.declared.row.Row.{Row}
 use Rattle.theory.specs.Rows.{Meets, Feasible}
 use Rattle.theory.specs.Meaning.{Meaning, Sane, newest, with_row, with_level, without_level}
@@ -13,27 +13,13 @@ use Rattle.sums.specs.declared.Terms.{Terms}
 use Rattle.doubled.specs.Asking.{Ready, Answered, further}
 use Rattle.sums.specs.Greatest.{GreatestOf}
 use Rattle.doubled.specs.State.{Over, own, Sound, with_images}
-use Rattle.sums.specs.Terms.{images, terms_of, Within, sent, greatest_by, half_sizes}
+use Rattle.sums.specs.Terms.{terms_of, Within, greatest_by, half_sizes}
 use Rattle.sums.proofs.Above.{greatest_above}
-use Rattle.doubled.specs.Levels.{rising_more, rising_push, rising_closed, marks_row, marks_push, marks_newest, marks_closed, sent_take}
-use Rattle.doubled.specs.Questions.{table_of}
+use Rattle.doubled.proofs.Levels.{rising_more, rising_push, rising_closed, marks_row, marks_push, marks_newest, marks_closed, sent_take}
+use Rattle.doubled.proofs.Questions.{table_of}
 use Rattle.sums.proofs.Sent.{Fair, sent_push, sent_few, sent_fair, sent_met}
 
 module _ (m b : Meaning) (o : Over m b) where
-  -- as many levels are open here as below
-  pub over_long : length m.levels ≡ length b.levels
-  over_long = rw o.levels (sym (length-map m.levels (λ l. length (sent (take l m.rows)))))
-
-  pub over_sane : Sane b → Sane m
-  over_sane s =
-      let z = o.sizes in
-      record {
-        limits = rw z (record { unknowns = omega (arith, s.limits.unknowns); space = omega (arith, s.limits.space); depth = s.limits.depth; reach = omega (arith, s.limits.reach) });
-        rows_fit = o.rows_fit;
-        levels_fit = rw z (omega (arith, s.levels_fit, over_long));
-        point = o.point;
-      }
-
   pub over_ready : Ready b
   over_ready = rw o.rows (sent_fair b.sizes m.rows o.fair)
 

@@ -1,5 +1,5 @@
 -- What each step makes of what a filter means and of what the theory below means. Assumes nothing.
-use Rattle.std.specs.Prelude.{◌≡◌, ℕ, ◌+◌, ◌-◌, ◌<◌, ◌≤◌, ◌⊎◌, List, [], ◌∷◌, ◌++◌, length, take, ℤ, ◌≤ℤ◌, Some, None, Ok, Err, vec_items, vec_capacity, Option, Result, refl}
+use Rattle.std.specs.Prelude.{◌≡◌, ℕ, ◌-◌, ◌<◌, ◌⊎◌, List, [], ◌∷◌, ◌++◌, length, take, ℤ, ◌≤ℤ◌, Some, None, Ok, Err, vec_items, vec_capacity, Option, Result, refl}
 use Rattle.std.proofs.Common.{sym, ap, subst, ◌∙◌, inl, inr, arith}
 use Rattle.std.specs.List.{AllByRecursion}
 use Rattle.std.proofs.lemmas.List.{length_push, length-take-le, take_all, take_more}
@@ -13,21 +13,11 @@ use Rattle.theory.specs.Meaning.{Meaning, Sane, newest, with_row, with_level, wi
 use Rattle.theory.specs.Calls.{put_fault, Put, Tightest}
 use Rattle.filter.specs.declared.Filter.{Filter}
 use Rattle.filter.specs.Filters.{Stack, Over, Passed, Sound, own}
-use Rattle.filter.specs.Rows.{filtered_feasible, filtered_greatest, filtered_put, filtered_held}
-use Rattle.filter.specs.Stacks.{stack_long, stack_held, stack_put, stack_push, stack_pop}
+use Rattle.filter.specs.Sanity.{over_long}
+use Rattle.filter.proofs.Rows.{filtered_greatest, filtered_put, filtered_held}
+use Rattle.filter.proofs.Stacks.{stack_held, stack_put, stack_push, stack_pop}
 
 module _ (m b : Meaning) (o : Over m b) where
-  pub over_long : length m.levels ≡ length b.levels
-  over_long = stack_long 0 0 m.rows b.rows m.levels b.levels o.stack
-
-  pub over_sane : Sane b → Sane m
-  over_sane s = record {
-    limits = rw o.sizes s.limits;
-    rows_fit = o.rows_fit;
-    levels_fit = rw o.sizes (omega (arith, s.levels_fit, over_long));
-    point = filtered_feasible _ _ o.same s.point;
-  }
-
   module _ (r : Row) (room : length m.rows < m.sizes.space) where
     held_stack : Stack 0 0 (m.rows ++ r ∷ []) b.rows m.levels b.levels
     held_stack = stack_held 0 0 m.rows b.rows m.levels b.levels r o.stack

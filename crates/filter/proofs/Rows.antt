@@ -18,9 +18,6 @@ module _ (rows kept : List Row) (f : Filtered rows kept) where
   filtered_greatest s (Some m) g = (λ p h. g.0 p (f.to p h), (g.1.0, f.from g.1.0 g.1.1, g.1.2))
   filtered_greatest s None g = λ m. let w = g m in (w.0, f.from w.0 w.1, w.2)
 
-  pub filtered_feasible : Feasible kept → Feasible rows
-  filtered_feasible k = (k.0, f.from k.0 k.1)
-
   -- one more row on both sides
   pub filtered_put : (r : Row) → Filtered (rows ++ r ∷ []) (kept ++ r ∷ [])
   filtered_put r = record {

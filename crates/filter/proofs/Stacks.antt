@@ -1,16 +1,9 @@
 -- The rows of each level's time stay filtered, when a row comes, a level opens and the newest level closes. Assumes nothing.
-use Rattle.std.specs.Prelude.{◌≡◌, ℕ, ◌≤◌, List, [], ◌∷◌, ◌++◌, length, take}
+use Rattle.std.specs.Prelude.{ℕ, ◌≤◌, List, [], ◌∷◌, ◌++◌, length, take}
 use Rattle.std.proofs.Common.{arith}
 use Rattle.std.proofs.lemmas.List.{length_push, length-take-le, take-append-le, take-take, take_all}
 use Rattle.theory.specs.declared.row.Row.{Row}
 use Rattle.filter.specs.Filters.{Filtered, Stack}
-
--- as many levels are open here as below
-pub stack_long : (low base : ℕ) (rows kept : List Row) (ls ms : List ℕ) → Stack low base rows kept ls ms → length ls ≡ length ms
-stack_long low base rows kept [] [] h = omega arith
-stack_long low base rows kept [] (m ∷ ms) h = absurd h
-stack_long low base rows kept (l ∷ ls) [] h = absurd h
-stack_long low base rows kept (l ∷ ls) (m ∷ ms) h = let rest = stack_long l m rows kept ls ms h.3 in omega arith
 
 stack_low : (low base : ℕ) (rows kept : List Row) (ls ms : List ℕ) → Stack low base rows kept ls ms → (low ≤ length rows) × (base ≤ length kept)
 stack_low low base rows kept [] [] h = h

@@ -1,5 +1,5 @@
 -- The levels below beside those here, when a row comes, a level opens and the newest level closes. Assumes nothing.
-use Rattle.std.specs.Prelude.{◌≡◌, ℕ, ◌+◌, ◌-◌, ◌<◌, ◌≤◌, List, [], ◌∷◌, ◌++◌, length, take, drop, refl}
+use Rattle.std.specs.Prelude.{◌≡◌, ℕ, ◌-◌, ◌<◌, ◌≤◌, List, [], ◌∷◌, ◌++◌, length, take, drop, refl}
 use Rattle.std.proofs.Common.{sym, ap, subst, ◌∙◌, arith, take-append-drop}
 use Rattle.std.proofs.lemmas.List.{length-map, take-append-le, take-take, take_all, take_at, take_more, take-map, get_or-map, map_push}
 use Rattle.theory.specs.declared.row.Row.{Row}
