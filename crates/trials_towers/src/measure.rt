@@ -69,8 +69,8 @@ impl Load {
 
 // How many of the rows are taken.
 fn put_all<T: Theory>(theory: &mut T, rows: &[Row]) -> u64
-    requires { sound theory.old }
-    ensures { sound theory.new }
+    requires { T.sound theory.old }
+    ensures { T.sound theory.new }
 {
     let mut taken: u64 = 0;
     for row in rows {
@@ -83,8 +83,8 @@ fn put_all<T: Theory>(theory: &mut T, rows: &[Row]) -> u64
 
 // How many of the sides have a greatest value.
 fn ask_all<T: Theory>(theory: &mut T, sides: &[Side]) -> u64
-    requires { sound theory.old }
-    ensures { sound theory.new }
+    requires { T.sound theory.old }
+    ensures { T.sound theory.new }
 {
     let mut bounded: u64 = 0;
     for side in sides {
