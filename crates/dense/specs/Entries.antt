@@ -1,7 +1,7 @@
 -- What a matrix holds at its places. Assumes nothing.
 -- of_line, entry: what stands at a place.     LineHolds, Holds: what stands at every place.
 -- Small: all bounds of a matrix lie near 0.
--- no-bounds: the matrix of no rows.           line-with-row: a line after one more row.
+-- no_bounds: the matrix of no rows.           line_with_row: a line after one more row.
 use Rattle.std.specs.Prelude.{◌≡◌, ℕ, ◌<◌, cond, List, [], ℤ, pos, Some, None, Option, ◌==◌, slice_index_or}
 use Rattle.bounds.specs.Tables.{Differences, least_of, sum_of}
 use Rattle.differences.specs.Tabled.{Near}

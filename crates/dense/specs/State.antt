@@ -1,6 +1,6 @@
 -- What a dense theory means, and what its methods need of it and keep. Assumes nothing.
 -- Stack: each level's matrix is that of the rows of its time.   Sound: the state is as the methods need it.
--- meaning-of: its rows, levels and sizes.
+-- meaning_of: its rows, levels and sizes.
 use Rattle.std.specs.Prelude.{ℕ, ◌≤◌, List, [], ◌∷◌, map, length, take, vec_items, vec_len, vec_capacity}
 use Rattle.std.specs.List.{AllByRecursion}
 use Rattle.theory.specs.declared.row.Row.{Row}

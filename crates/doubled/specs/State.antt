@@ -1,6 +1,6 @@
 -- What a doubled theory means beside the theory below it, and what its methods need and keep. Assumes nothing.
 -- marks: the levels below.   Rising: levels open at rising numbers of rows.   Over: what the layer means, beside what the theory below means.
--- Takes: a row that is accepted below.   with-images: the meaning below after a row.
+-- Takes: a row that is accepted below.   with_images: the meaning below after a row.
 -- own: what the layer means.   Sound: the state is as the methods need it.     Started: when a doubled theory starts.
 use Rattle.std.specs.Prelude.{◌≡◌, ℕ, ◌<◌, ◌≤◌, List, [], ◌∷◌, ◌++◌, map, length, take, ℤ, None, Ok, Err, vec_items, vec_capacity, Result, ◌≢◌, unsigned_abs}
 use Rattle.std.specs.List.{AllByRecursion}

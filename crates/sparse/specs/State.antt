@@ -1,6 +1,6 @@
 -- What a sparse theory means, and what its methods need of it and keep. Assumes nothing.
 -- Ready: the marks are clear.             Sound: the state is as the methods need it.
--- meaning-of: its rows, levels and sizes. Accepted: the answer to a row that breaks none of the rules 1 to 6.
+-- meaning_of: its rows, levels and sizes. Accepted: the answer to a row that breaks none of the rules 1 to 6.
 use Rattle.std.specs.Prelude.{◌≡◌, ℕ, ◌<◌, ◌≤◌, [], ◌∷◌, ◌++◌, length, take, Ok, Err, Result, slice_index, slice_index_or}
 use Rattle.theory.specs.declared.refusal.Refusal.{Refusal}
 use Rattle.theory.specs.declared.refusal.Refusal.TheVariants.{Contradiction}

@@ -1,8 +1,8 @@
 -- Left sides and rows in the terms of the theory below, where the unknown 2k stands for x(k) and 2k + 1 for −x(k). Assumes nothing.
--- lit: a literal of the code as one of the mathematics.     literal_by, terms-of: the terms of a side.   Opposite: those of its opposite.
--- value-by: what terms come to at a point.                   Within: they are about unknowns below n, not twice about one.
+-- lit: a literal of the code as one of the mathematics.     literal_by, terms_of: the terms of a side.   Opposite: those of its opposite.
+-- value_by: what terms come to at a point.                   Within: they are about unknowns below n, not twice about one.
 -- images: what a row is sent down as.                        sent: what rows are sent down as.
--- greatest-by: the greatest value of terms, by a table of the greatest differences below.
+-- greatest_by: the greatest value of terms, by a table of the greatest differences below.
 use Rattle.std.specs.Prelude.{◌≡◌, ℕ, ◌/◌, ◌<◌, List, [], ◌∷◌, ◌++◌, ℤ, ◌+ℤ◌, ◌-ℤ◌, Option, ◌≢◌}
 use Rattle.theory.specs.declared.row.Sign.{Sign}
 use Rattle.theory.specs.declared.row.Sign.TheVariants as sign

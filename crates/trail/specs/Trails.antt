@@ -1,6 +1,6 @@
 -- What a trail means. Assumes nothing.
 -- items: its entries.       levels: for each open level the number of entries when it opened, oldest first.
--- room, level-room: how many of each its memory holds.
+-- room, level_room: how many of each its memory holds.
 -- Sound: what the methods need of a trail and keep.
 use Rattle.std.specs.Prelude.{◌≡◌, ℕ, ◌-◌, ◌<◌, ◌≤◌, List, length, take, slice_index}
 use Rattle.trail.specs.declared.Trail.{Trail}
