@@ -1,4 +1,4 @@
--- A point meets the rows of fair edges exactly where it keeps the edges. Assumes nothing.
+-- A point that meets the rows of fair edges keeps the edges; the other way round stands in specs/Sanity.antt. Assumes nothing.
 use Rattle.std.proofs.Common.{List, length, get_or, subst, arith}
 use Rattle.std.specs.List.{AllWithin, AllByRecursion}
 use Rattle.std.proofs.lemmas.List.{length-map, get_or-map}

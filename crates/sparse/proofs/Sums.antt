@@ -26,9 +26,9 @@ module _ (a b : ℤ) (a_near : nat_abs a ≤ 266240000000) (b_near : nat_abs b �
   pub opposite_is : to_z w64 (of_z w64 (pos 0 -ℤ computed a b)) ≡ neg_ℤ (a +ℤ b)
   opposite_is = to_z-of_z w64 _ opposite_fits ∙ rw sum_is (omega (arith, ints))
 
-  module _ (x : ℤ) (x_Fits : SFits w64 x) where
+  module _ (x : ℤ) (x_fits : SFits w64 x) where
     pub at_most : le_z (to_z w64 (of_z w64 x)) (computed a b) ≡ true → x ≤ℤ (a +ℤ b)
-    at_most h = let k = rw (to_z-of_z w64 x x_Fits, sum_is) at h in grind (arith, ints)
+    at_most h = let k = rw (to_z-of_z w64 x x_fits, sum_is) at h in grind (arith, ints)
 
     pub above : le_z (to_z w64 (of_z w64 x)) (computed a b) ≡ false → (a +ℤ b) <ℤ x
-    above h = let k = rw (to_z-of_z w64 x x_Fits, sum_is) at h in grind (arith, ints)
+    above h = let k = rw (to_z-of_z w64 x x_fits, sum_is) at h in grind (arith, ints)

@@ -3,7 +3,7 @@
 -- Met: a point meets the row of an edge.      Keeps: it meets those of all the edges.
 -- Link: the newest edge out of v below hi stands at lo − 1, and lo is 0 where there is none.
 -- Chained: each head links to the newest edge, and each edge to the one before it out of the same unknown.
-use Rattle.std.specs.Prelude.{◌≡◌, ℕ, ◌-◌, ◌<◌, ◌≤◌, List, [], ◌∷◌, ◌++◌, map, length, get_or, ◌+ℤ◌, ◌≤ℤ◌, ◌≢◌, slice_index, slice_index_or}
+use Rattle.std.specs.Prelude.{◌≡◌, ℕ, ◌-◌, ◌<◌, ◌≤◌, List, [], ◌∷◌, ◌++◌, map, length, ◌+ℤ◌, ◌≤ℤ◌, ◌≢◌, slice_index, slice_index_or}
 use Rattle.std.specs.List.{AllWithin}
 use Rattle.theory.specs.declared.row.Row.{Row}
 use Rattle.theory.specs.Rows.{Point}
@@ -32,7 +32,7 @@ pub record Link (es : List Edge) (v lo hi : ℕ) : Type 0 where
 
 pub record Chained (es : List Edge) (hs : List ℕ) : Type 0 where
   pub heads : (v : ℕ) → v < 64 → Link es v (slice_index hs v) (length es)
-  pub nexts : (i : ℕ) (d : Edge) → i < length es → Link es (source (slice_index_or es i d)) (get_or es i d).next i
+  pub nexts : (i : ℕ) (d : Edge) → i < length es → Link es (source (slice_index_or es i d)) (slice_index_or es i d).next i
 
 abbrev pub edges_of : Graph → List Edge
 edges_of g = items g.edges
