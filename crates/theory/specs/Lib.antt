@@ -5,3 +5,4 @@ pub mod Refusals
 pub mod Rules
 pub mod Meaning
 pub mod Calls
+pub mod Text

@@ -1,35 +1,10 @@
 // The rules that a left side and a row have to pass before any standing row is looked at, checked in their order.
 ghost use Rattle.std.specs.Prelude.{◌≡◌};
-ghost use Rattle.theory.specs.Rules.{side_fault, row_fault};
-ghost use Rattle.theory.specs.Rules.{told, zero_sign, breadth_of, breadth_number};
+ghost use Rattle.theory.specs.Rules.{told, side_fault, row_fault, breadth_of};
 
 use crate::refusal::Refusal;
 use crate::row::{Row, Side, Sign};
 use crate::sizes::{Breadth, Sizes};
-
-impl Sign {
-    fn is_zero(self) -> bool
-        ensures { result ≡ zero_sign self }
-    {
-        match self {
-            Sign::Zero => true,
-            Sign::Plus => false,
-            Sign::Minus => false,
-        }
-    }
-}
-
-impl Breadth {
-    pub fn number(self) -> u8
-        ensures { result ≡ breadth_number self }
-    {
-        match self {
-            Breadth::Differences => 1,
-            Breadth::Bounds => 2,
-            Breadth::Sums => 3,
-        }
-    }
-}
 
 impl Side {
     // The least breadth that takes this side.
@@ -37,10 +12,8 @@ impl Side {
         ensures { result ≡ breadth_of self.a self.b }
     {
         match (self.a, self.b) {
-            (_, Sign::Zero) => Breadth::Bounds,
-            (Sign::Zero, _) => Breadth::Bounds,
-            (Sign::Plus, Sign::Minus) => Breadth::Differences,
-            (Sign::Minus, Sign::Plus) => Breadth::Differences,
+            (_, Sign::Zero) | (Sign::Zero, _) => Breadth::Bounds,
+            (Sign::Plus, Sign::Minus) | (Sign::Minus, Sign::Plus) => Breadth::Differences,
             _ => Breadth::Sums,
         }
     }
@@ -50,8 +23,8 @@ impl Side {
 pub fn check_side(sizes: Sizes, side: Side) -> Result<(), Refusal>
     ensures { result ≡ told (side_fault sizes side) }
 {
-    let two_sided = !side.b.is_zero();
-    if side.a.is_zero() || (!two_sided && side.v != 0) {
+    let two_sided = side.b != Sign::Zero;
+    if side.a == Sign::Zero || (!two_sided && side.v != 0) {
         return Err(Refusal::Signs);
     }
     if side.u >= sizes.unknowns || (two_sided && side.v >= sizes.unknowns) {
@@ -60,7 +33,7 @@ pub fn check_side(sizes: Sizes, side: Side) -> Result<(), Refusal>
     if two_sided && side.u == side.v {
         return Err(Refusal::Twice);
     }
-    if side.breadth().number() > sizes.breadth.number() {
+    if side.breadth() > sizes.breadth {
         return Err(Refusal::Breadth);
     }
     Ok(())

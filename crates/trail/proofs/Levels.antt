@@ -2,8 +2,7 @@
 use Rattle.std.proofs.Common.{ℕ, ◌-◌, ◌<◌, ◌≤◌, List, [], ◌∷◌, ◌++◌, length, take, ⊎_elim, arith}
 use Rattle.std.proofs.lemmas.List.{length_push, length-take-le, get_or_push, get_or_append_left, get_or-take}
 use Rattle.std.proofs.lemmas.Bool.{cases_lt}
-use Rattle.trail.specs.declared.Trail.{Trail}
-use Rattle.trail.specs.Trails.{items, levels, newest, Rising, Sound}
+use Rattle.trail.specs.Levels.{newest, Rising}
 
 module _ (ls : List ℕ) (n : ℕ) (rising : Rising ls n) where
   -- more entries
@@ -48,7 +47,3 @@ module _ (ls : List ℕ) (n : ℕ) (rising : Rising ls n) where
   -- the newest level opened at no more entries than there are
   pub newest_within : 0 < length ls → newest ls ≤ n
   newest_within some = (rising (length ls - 1) (length ls - 1) (omega arith) (omega arith)).1
-
--- a sound trail's levels rise up to its number of entries
-pub sound_rising : {E : Type 0} (t : Trail E) → Sound t → Rising (levels t) (length (items t))
-sound_rising t s = rw (length-take-le t.len t.entries.now s.fits) s.rising

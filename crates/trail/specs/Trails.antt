@@ -1,8 +1,8 @@
 -- What a trail means. Assumes nothing.
 -- items: its entries.       levels: for each open level the number of entries when it opened, oldest first.
 -- room, level_room: how many of each its memory holds.
--- Sound: what the methods need of a trail and keep.
-use Rattle.std.specs.Prelude.{◌≡◌, ℕ, ◌-◌, ◌<◌, ◌≤◌, List, length, take, slice_index}
+use Rattle.std.specs.Prelude.{◌≡◌, ℕ, List, length, take}
+use Rattle.trail.specs.Levels as of
 use Rattle.trail.specs.declared.Trail.{Trail}
 
 abbrev pub items : {E : Type 0} → Trail E → List E
@@ -17,15 +17,6 @@ room t = length t.entries.now
 abbrev pub level_room : {E : Type 0} → Trail E → ℕ
 level_room t = length t.marks.now
 
--- no level opened before an older one, and none at more entries than n
-abbrev pub Rising : List ℕ → ℕ → Type 0
-Rising ls n = (i j : ℕ) → i ≤ j → j < length ls → (slice_index ls i ≤ slice_index ls j) × (slice_index ls j ≤ n)
-
-pub record Sound {E : Type 0} (t : Trail E) : Type 0 where
-  pub fits : t.len ≤ room t
-  pub levels_fit : t.depth ≤ level_room t
-  pub rising : Rising (levels t) t.len
-
 -- the memory is as it was
 pub record Roomy {E : Type 0} (t t' : Trail E) : Type 0 where
   pub entries : room t' ≡ room t
@@ -33,4 +24,4 @@ pub record Roomy {E : Type 0} (t t' : Trail E) : Type 0 where
 
 -- the number of entries when the newest level opened
 abbrev pub newest : List ℕ → ℕ
-newest ls = slice_index ls (length ls - 1)
+newest = of.newest

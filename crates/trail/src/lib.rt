@@ -5,7 +5,7 @@
 #![tactic(auto)]
 
 ghost use Rattle.std.specs.Prelude.{◌≡◌, ℕ, ◌+◌, ◌-◌, ◌^◌, ◌<◌, ◌≤◌, [], ◌∷◌, ◌++◌, length, take, slice_index_or};
-ghost use Rattle.trail.specs.Trails.{items, levels, newest, room, level_room, Sound, Roomy};
+ghost use Rattle.trail.specs.Levels.{Rising};
 
 #[derive(Drop)]
 pub struct Trail<'a, E> {
@@ -13,12 +13,16 @@ pub struct Trail<'a, E> {
     marks: &'a mut [u32],
     len: usize,
     depth: usize,
+    ghost fits: { len ≤ length entries.now },
+    ghost levels_fit: { depth ≤ length marks.now },
+    ghost rising: { Rising (take depth marks.now) len },
 }
 
 impl<'a, E: Copy> Trail<'a, E> {
+    ghost use Rattle.trail.specs.Trails.{items, levels, newest, room, level_room, Roomy};
+
     // Without entries and levels, whatever the slices hold.
     pub fn new(entries: &'a mut [E], marks: &'a mut [u32]) -> Trail<'a, E>
-        ensures sound { Sound result }
         ensures items { items result ≡ [] }
         ensures levels { levels result ≡ [] }
         ensures room { room result ≡ length entries.old }
@@ -34,7 +38,6 @@ impl<'a, E: Copy> Trail<'a, E> {
 
     // How many entries there are.
     pub fn len(&self) -> usize
-        requires { Sound self.now }
         ensures { result ≡ length (items self.now) }
     {
         self.len
@@ -42,7 +45,6 @@ impl<'a, E: Copy> Trail<'a, E> {
 
     // How many levels are open.
     pub fn depth(&self) -> usize
-        requires { Sound self.now }
         ensures { result ≡ length (levels self.now) }
     {
         self.depth
@@ -50,7 +52,6 @@ impl<'a, E: Copy> Trail<'a, E> {
 
     // The entry at place i, the oldest at 0.
     pub fn at(&self, i: usize) -> E
-        requires sound { Sound self.now }
         requires within { i < length (items self.now) }
         ensures { result ≡ slice_index_or (items self.now) i result }
     {
@@ -60,7 +61,6 @@ impl<'a, E: Copy> Trail<'a, E> {
 
     // How many entries there were when the newest level opened.
     pub fn newest_level(&self) -> usize
-        requires sound { Sound self.now }
         requires opened { 0 < length (levels self.now) }
         ensures { result ≡ newest (levels self.now) }
     {
@@ -69,10 +69,8 @@ impl<'a, E: Copy> Trail<'a, E> {
     }
 
     pub fn open_level(&mut self)
-        requires sound { Sound self.old }
         requires room { length (levels self.old) < level_room self.old }
         requires few { length (items self.old) < 2 ^ 32 }
-        ensures sound { Sound self.new }
         ensures roomy { Roomy self.old self.new }
         ensures items { items self.new ≡ items self.old }
         ensures levels { levels self.new ≡ levels self.old ++ length (items self.old) ∷ [] }
@@ -82,9 +80,7 @@ impl<'a, E: Copy> Trail<'a, E> {
     }
 
     pub fn add(&mut self, entry: E)
-        requires sound { Sound self.old }
         requires room { length (items self.old) < room self.old }
-        ensures sound { Sound self.new }
         ensures roomy { Roomy self.old self.new }
         ensures items { items self.new ≡ items self.old ++ entry ∷ [] }
         ensures levels { levels self.new ≡ levels self.old }
@@ -95,9 +91,7 @@ impl<'a, E: Copy> Trail<'a, E> {
 
     // Takes back the newest entry, which came since the newest level opened.
     pub fn take_back(&mut self) -> E
-        requires sound { Sound self.old }
         requires since { newest (levels self.old) < length (items self.old) }
-        ensures sound { Sound self.new }
         ensures roomy { Roomy self.old self.new }
         ensures items { items self.old ≡ items self.new ++ result ∷ [] }
         ensures levels { levels self.new ≡ levels self.old }
@@ -110,9 +104,7 @@ impl<'a, E: Copy> Trail<'a, E> {
 
     // Closes the newest level, and says how many entries that came since it opened are taken back.
     pub fn close_level(&mut self) -> usize
-        requires sound { Sound self.old }
         requires opened { 0 < length (levels self.old) }
-        ensures sound { Sound self.new }
         ensures roomy { Roomy self.old self.new }
         ensures items { items self.new ≡ take (newest (levels self.old)) (items self.old) }
         ensures levels { levels self.new ≡ take (length (levels self.old) - 1) (levels self.old) }
