@@ -1,25 +1,17 @@
 -- What each call of a theory answers and leaves: a relation between the meaning before, the arguments, the answer and the meaning after. Assumes nothing.
 -- A refusal leaves the meaning as it was, and so does a question.
-use Rattle.std.specs.Prelude.{◌≡◌, ◌==◌, cond, ℕ, ◌<◌, ◌≤◌, List, [], ◌∷◌, ◌++◌, length, ℤ, Some, None, Ok, Err, Option, Result, ◌≢◌, nat_le, slice_index_or}
+use Rattle.std.specs.Prelude.{◌≡◌, ℕ, ◌<◌, ◌≤◌, List, [], ◌∷◌, ◌++◌, length, ℤ, Some, None, Ok, Err, Option, Result, ◌≢◌, slice_index_or}
 use Rattle.theory.specs.declared.refusal.Refusal.{Refusal}
 use Rattle.theory.specs.declared.refusal.Refusal.TheVariants as refusal
 use Rattle.theory.specs.declared.row.Row.{Row}
 use Rattle.theory.specs.declared.row.Side.{Side}
 use Rattle.theory.specs.Rows.{Feasible, Greatest}
-use Rattle.theory.specs.Rules.{side_fault, row_fault, or_else}
+use Rattle.theory.specs.Rules.{side_fault, put_fault_of}
 use Rattle.theory.specs.Meaning.{Meaning, empty, with_row, with_level, without_level}
 
 -- the first of the rules 1 to 6 that a put of r breaks
 abbrev pub put_fault : Meaning → Row → Option Refusal
-put_fault m r = or_else (row_fault m.sizes r) (nat_le m.sizes.space (length m.rows)) refusal.Space
-
--- rule 8, which a push may break
-abbrev pub push_fault : Meaning → Option Refusal
-push_fault m = cond (nat_le m.sizes.depth (length m.levels)) (Some refusal.Depth) None
-
--- rule 9, which a pop may break
-abbrev pub pop_fault : Meaning → Option Refusal
-pop_fault m = cond (length m.levels == 0) (Some refusal.NoLevel) None
+put_fault m r = put_fault_of m.sizes (length m.rows) r
 
 -- e is the first broken rule, or where none of those is broken, the contradiction
 abbrev pub RefusedBy : Option Refusal → Refusal → Type 0 → Type 0

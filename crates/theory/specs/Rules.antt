@@ -63,6 +63,18 @@ or_else None broken f = cond broken (Some f) None
 abbrev pub row_fault : Sizes → Row → Option Refusal
 row_fault z r = or_else (side_fault z r.side) (nat_lt z.reach (unsigned_abs r.c)) refusal.Reach
 
+-- rules 1 to 6 for a row where so many rows stand
+abbrev pub put_fault_of : Sizes → ℕ → Row → Option Refusal
+put_fault_of z rows r = or_else (row_fault z r) (nat_le z.space rows) refusal.Space
+
+-- rule 8 where so many levels are open
+abbrev pub push_fault_of : Sizes → ℕ → Option Refusal
+push_fault_of z levels = cond (nat_le z.depth levels) (Some refusal.Depth) None
+
+-- rule 9
+abbrev pub pop_fault_of : ℕ → Option Refusal
+pop_fault_of levels = cond (levels == 0) (Some refusal.NoLevel) None
+
 -- the answer of a check
 abbrev pub told : Option Refusal → Result (Unit {0}) Refusal
 told None = Ok tt

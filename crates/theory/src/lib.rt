@@ -5,12 +5,10 @@
 ghost use Rattle.std.specs.Prelude.{◌≡◌, length, IfOk};
 ghost use Rattle.theory.specs.Meaning.{Meaning, Sane, empty};
 ghost use Rattle.theory.specs.declared.sizes.Sizes.{Sizes as TheSizes};
-ghost use Rattle.theory.specs.Rules.{told};
-ghost use Rattle.theory.specs.Calls.{Put, Push, Pop, Tightest, EmptyChecked, put_fault, push_fault, pop_fault};
+ghost use Rattle.theory.specs.Calls.{Put, Push, Pop, Tightest, EmptyChecked};
 
 use refusal::Refusal;
 use row::{Row, Side};
-use rules::check_row;
 use sizes::Sizes;
 use std::alloc::{AllocError, Global};
 
@@ -44,38 +42,6 @@ pub trait Theory {
         ensures { Tightest (meaning self.old) side result (meaning self.new) };
 
     ghost sane: { (t : Self) → Sane (meaning t) };
-}
-
-// Rules 1 to 6, before a put.
-pub fn check_put<T: Theory>(theory: &T, row: Row) -> Result<(), Refusal>
-    ensures { result ≡ told (put_fault (T.meaning theory.now) row) }
-{
-    let sizes = theory.sizes();
-    check_row(sizes, row)?;
-    if theory.row_count() >= sizes.space {
-        return Err(Refusal::Space);
-    }
-    Ok(())
-}
-
-// Rule 8, before a push.
-pub fn check_push<T: Theory>(theory: &T) -> Result<(), Refusal>
-    ensures { result ≡ told (push_fault (T.meaning theory.now)) }
-{
-    if theory.level_count() >= theory.sizes().depth {
-        return Err(Refusal::Depth);
-    }
-    Ok(())
-}
-
-// Rule 9, before a pop.
-pub fn check_pop<T: Theory>(theory: &T) -> Result<(), Refusal>
-    ensures { result ≡ told (pop_fault (T.meaning theory.now)) }
-{
-    if theory.level_count() == 0 {
-        return Err(Refusal::NoLevel);
-    }
-    Ok(())
 }
 
 // The check before a start over a theory: refused unless it is empty.
