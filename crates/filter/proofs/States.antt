@@ -1,5 +1,5 @@
 -- What each step makes of what a filter means and of what the theory below means. Assumes nothing.
-use Rattle.std.specs.Prelude.{◌≡◌, ℕ, ◌-◌, ◌<◌, ◌⊎◌, List, [], ◌∷◌, ◌++◌, length, take, ℤ, ◌≤ℤ◌, Some, None, Ok, Err, vec_items, vec_capacity, Option, Result, refl}
+use Rattle.std.specs.Prelude.{◌≡◌, ℕ, ◌-◌, ◌<◌, ◌⊎◌, List, [], ◌∷◌, ◌++◌, length, take, ℤ, ◌≤ℤ◌, Some, None, Ok, Err, Option, Result, refl}
 use Rattle.std.proofs.Common.{sym, ap, subst, ◌∙◌, inl, inr, arith}
 use Rattle.std.specs.List.{AllByRecursion}
 use Rattle.std.proofs.lemmas.List.{length_push, length-take-le, take_all, take_more}
@@ -11,8 +11,7 @@ use Rattle.theory.specs.declared.row.Side.{Side}
 use Rattle.theory.specs.Rows.{Point, Meets, Greatest}
 use Rattle.theory.specs.Meaning.{Meaning, Sane, newest, with_row, with_level, without_level}
 use Rattle.theory.specs.Calls.{put_fault, Put, Tightest}
-use Rattle.filter.specs.declared.Filter.{Filter}
-use Rattle.filter.specs.Filters.{Stack, Over, Passed, Sound, own}
+use Rattle.filter.specs.Filters.{Stack, Over, Passed}
 use Rattle.filter.specs.Sanity.{over_long}
 use Rattle.filter.proofs.Rows.{filtered_greatest, filtered_put, filtered_held}
 use Rattle.filter.proofs.Stacks.{stack_held, stack_put, stack_push, stack_pop}
@@ -61,6 +60,10 @@ over_pop m b o some =
     let c = stack_pop 0 0 m.rows b.rows ls ms l k split in
     record { sizes = o.sizes; same = c.same; stack = c.rest; rows_fit = omega (arith, o.rows_fit, length-take-le l m.rows c.within, c.within) }
 
+-- a put that breaks none of the rules 1 to 6 finds room
+pub put_room : (m : Meaning) (r : Row) → put_fault m r ≡ None → length m.rows < m.sizes.space
+put_room m r h = grind arith
+
 -- a put below that breaks none of the rules 1 to 6 passes the row on
 pub passed_by_put : (m b n : Meaning) (r : Row) (a : Result (Unit {0}) Refusal) → b ≡ m → put_fault m r ≡ None → Put b r a n → Passed m r a n
 passed_by_put m b n r a is fair h = by a (rw is at h)
@@ -76,19 +79,11 @@ passed_by_bound m n r most is sane g under =
     let point = sane.point in
     ((point.0, All-push (Meets point.0) m.rows r point.1 (implied point.0 point.1)), inl (is, implied))
 
-module _ {T : Type 0} (sound : T → Type 0) (meaning : T → Meaning) (f : Filter T) (s : Sound sound meaning f) where
-  -- what holds of the filter after a step that leaves its room as it was
-  pub stepped : (g : Filter T) (m b : Meaning) → sound g.below → Over m b → m.sizes ≡ (meaning f.below).sizes → vec_items g.rows ≡ m.rows → vec_items g.levels ≡ m.levels → meaning g.below ≡ b → vec_capacity g.rows ≡ vec_capacity f.rows → vec_capacity g.levels ≡ vec_capacity f.levels → Sound sound meaning g × (own meaning g ≡ m)
-  stepped g m b kept over sizes rows levels below row_cap level_cap =
-      let same : (meaning g.below).sizes ≡ m.sizes = ap (λ x. x.sizes) below ∙ sym over.sizes in
-      let is : own meaning g ≡ m = λ i. record { rows = rows i; levels = levels i; sizes = same i } in
-      (record { kept = kept; over = rw (is, below) over; row_room = rw (same, sizes, row_cap) s.row_room; level_room = rw (same, sizes, level_cap) s.level_room }, is)
+-- a question below is one here
+pub over_tightest : (m b n : Meaning) (s : Side) (a : Result (Option ℤ) Refusal) → Over m b → Tightest b s a n → Tightest m s a m
+over_tightest m b n s (Ok o) over h = (rw over.sizes h.0, filtered_greatest _ _ over.same s o h.1, refl)
+over_tightest m b n s (Err e) over h = (rw over.sizes h.0, refl)
 
-  -- the filter after a call that left what the theory below means
-  pub stayed : (t : T) → sound t → meaning t ≡ meaning f.below → Sound sound meaning (record { below = t; rows = f.rows; levels = f.levels }) × (own meaning (record { below = t; rows = f.rows; levels = f.levels }) ≡ own meaning f)
-  stayed t kept below = stepped (record { below = t; rows = f.rows; levels = f.levels }) (own meaning f) (meaning f.below) kept s.over refl refl refl below refl refl
-
-  -- the filter after a question
-  pub asked : (t : T) (side : Side) (a : Result (Option ℤ) Refusal) → sound t → Tightest (meaning f.below) side a (meaning t) → Sound sound meaning (record { below = t; rows = f.rows; levels = f.levels }) × Tightest (own meaning f) side a (own meaning (record { below = t; rows = f.rows; levels = f.levels }))
-  asked t side (Ok o) kept h = let after = stayed t kept h.2 in (after.0, (h.0, filtered_greatest _ _ s.over.same side o h.1, after.1))
-  asked t side (Err e) kept h = let after = stayed t kept h.1 in (after.0, (h.0, after.1))
+-- as many levels are open as below, and as many may be
+pub over_depth : (m b : Meaning) → Over m b → (length m.levels ≡ length b.levels) × (m.sizes.depth ≡ b.sizes.depth)
+over_depth m b over = (over_long m b over, ap (λ z. z.depth) over.sizes)

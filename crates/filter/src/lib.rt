@@ -8,132 +8,91 @@
 #![tactic(auto)]
 
 ghost use Rattle.std.specs.Prelude.{◌≡◌, None};
+ghost use Rattle.standing.specs.Starts.{Started};
 ghost use Rattle.theory.specs.Calls.{put_fault};
-ghost use Rattle.filter.specs.Filters.{Passed, Sound, own, Started};
+ghost use Rattle.filter.specs.Filters.{Passed, Over, Over-prop};
 ghost use Rattle.filter.specs.Sanity.{over_sane};
 
+use standing::Standing;
+use standing::start::Unstarted;
 use std::alloc::{AllocError, Global};
 use theory::refusal::Refusal;
 use theory::row::{Row, Side};
-use theory::rules::check_row;
+use theory::rules::check_put;
 use theory::sizes::Sizes;
-use theory::{Start, Theory, check_empty};
+use theory::{Start, Theory};
 
-// The levels are those open, oldest first, each by the number of rows that stood here when it opened.
 #[derive(Drop)]
-pub struct Filter<T> {
+pub struct Filter<T: Theory> {
     below: T,
-    rows: Vec<Row>,
-    levels: Vec<u32>,
-}
-
-#[derive(Clone, Copy, PartialEq)]
-pub enum Cause {
-    Memory,
-    Refused(Refusal),
-}
-
-// No filter was started: the theory as it was handed over, and why.
-#[derive(Drop)]
-pub struct Unstarted<T> {
-    pub theory: T,
-    pub cause: Cause,
+    standing: Standing,
+    ghost over: { Over standing (T.meaning below) } by { Over-prop standing (T.meaning below) },
 }
 
 // Puts the row below, unless the rows there bound its left side as tightly already.
 fn pass<T: Theory>(below: &mut T, row: Row) -> Result<(), Refusal>
-    requires sound { T.sound below.old }
-    requires fair { put_fault (T.meaning below.old) row ≡ None }
-    ensures kept { T.sound below.new }
-    ensures answers { Passed (T.meaning below.old) row result (T.meaning below.new) }
+    requires { put_fault (T.meaning below.old) row ≡ None }
+    ensures { Passed (T.meaning below.old) row result (T.meaning below.new) }
 {
-    if let Some(most) = below.tightest(row.side)? {
-        if most <= row.c {
-            return Ok(());
-        }
+    if let Some(most) = below.tightest(row.side)?
+        && most <= row.c
+    {
+        return Ok(());
     }
     below.put(row)
 }
 
 impl<T: Theory> Filter<T> {
     // Starts over an empty theory only; otherwise, and for want of memory, the theory is handed back as it was.
-    pub fn new(heap: Global, below: T) -> Result<Filter<T>, Unstarted<T>>
-        requires { T.sound below }
-        ensures { Started T.sound T.meaning below result }
+    pub fn new(alloc: Global, below: T) -> Result<Filter<T>, Unstarted<T>>
+        ensures { Started T.meaning (λ f. f.standing) (λ z. z) below result }
     {
-        if let Err(refusal) = check_empty(&below) {
-            return Err(Unstarted {
+        match Standing::over(alloc, &below, below.sizes()) {
+            Ok(standing) => Ok(Filter { below, standing }),
+            Err(cause) => Err(Unstarted {
                 theory: below,
-                cause: Cause::Refused(refusal),
-            });
+                cause,
+            }),
         }
-        let sizes = below.sizes();
-        let Ok(rows) = Vec::with_capacity(heap, sizes.space as usize) else {
-            return Err(Unstarted {
-                theory: below,
-                cause: Cause::Memory,
-            });
-        };
-        let Ok(levels) = Vec::with_capacity(heap, sizes.depth as usize) else {
-            return Err(Unstarted {
-                theory: below,
-                cause: Cause::Memory,
-            });
-        };
-        Ok(Filter {
-            below,
-            rows,
-            levels,
-        })
     }
 }
 
 impl<T: Theory> Theory for Filter<T> {
-    ghost meaning = { own T.meaning };
+    ghost meaning = { λ f. f.standing };
 
-    ghost sound = { Sound T.sound T.meaning };
-
-    ghost sane = { λ t s. over_sane _ _ s.over (T.Theory.sane t.below s.kept) };
+    ghost sane = { λ f. over_sane _ _ f.over (T.Theory.sane f.below) };
 
     fn sizes(&self) -> Sizes {
-        self.below.sizes()
+        self.standing.sizes()
     }
 
     fn row_count(&self) -> u32 {
-        self.rows.len() as u32
+        self.standing.row_count()
     }
 
     fn level_count(&self) -> u32 {
-        self.levels.len() as u32
+        self.standing.level_count()
     }
 
     // A question below, and a put below unless the row is held back.
     fn put(&mut self, row: Row) -> Result<(), Refusal> {
-        let sizes = self.sizes();
-        check_row(sizes, row)?;
-        if self.row_count() >= sizes.space {
-            return Err(Refusal::Space);
-        }
+        check_put(self.sizes(), self.row_count(), row)?;
         pass(&mut self.below, row)?;
-        self.rows.push_reserved(row);
+        self.standing.add(row);
         Ok(())
     }
 
     // A push below.
     fn push(&mut self) -> Result<(), Refusal> {
-        let count = self.row_count();
         self.below.push()?;
-        self.levels.push_reserved(count);
+        self.standing.open_level();
         Ok(())
     }
 
     // A pop below, and a step for each row that goes.
     fn pop(&mut self) -> Result<(), Refusal> {
         self.below.pop()?;
-        let Some(opened) = self.levels.pop() else {
-            unreachable()
-        };
-        self.rows.truncate(opened as usize);
+        self.standing.close_level();
         Ok(())
     }
 
@@ -152,11 +111,9 @@ impl<S: Start> Start for OverFilter<S> {
 
     ghost starts = { λ s. S.Start.starts s.0 };
 
-    fn start(self, heap: Global) -> Result<Filter<S::Made>, AllocError> {
-        let below = self.0.start(heap)?;
-        match Filter::new(heap, below) {
-            Ok(filter) => Ok(filter),
-            Err(_) => Err(AllocError),
-        }
+    // The theory below is empty, so only memory can be wanting.
+    fn start(self, alloc: Global) -> Result<Filter<S::Made>, AllocError> {
+        let below = self.0.start(alloc)?;
+        Filter::new(alloc, below).map_err(|_| AllocError)
     }
 }

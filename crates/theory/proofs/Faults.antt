@@ -28,9 +28,11 @@ pub no_fault_of_ok : (o : Option Refusal) → Ok tt ≡ told o → o ≡ None
 no_fault_of_ok None h = refl
 no_fault_of_ok (Some f) h = absurd (let z : ◌≡◌ {A = ℕ} 0 1 = cc in omega arith)
 
-module _ (o : Option Refusal) (broken : Bool) (f e : Refusal) (no_point : Type 0) where
-  pub first_refuses : Err e ≡ told o → RefusedBy (or_else o broken f) e no_point
-  first_refuses h = rw (fault_of_err o e h) refl
+module _ (o : Option Refusal) (e : Refusal) (no_point : Type 0) where
+  -- a check refuses by the first broken rule
+  pub check_refuses : Err e ≡ told o → RefusedBy o e no_point
+  check_refuses h = rw (fault_of_err o e h) refl
 
-  pub last_refuses : Ok tt ≡ told o → broken ≡ false → (e ≡ Contradiction) × no_point → RefusedBy (or_else o broken f) e no_point
-  last_refuses h kept says = rw (no_fault_of_ok o h, kept) says
+  -- what passed the check is refused as a contradiction
+  pub point_refuses : Ok tt ≡ told o → (e ≡ Contradiction) × no_point → RefusedBy o e no_point
+  point_refuses h says = rw (no_fault_of_ok o h) says

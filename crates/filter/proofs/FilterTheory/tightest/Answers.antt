@@ -1,7 +1,5 @@
-use Rattle.filter.proofs.States.{asked}
+use Rattle.filter.proofs.States.{over_tightest}
 use Rattle.filter.proofs.FilterTheory.tightest.Goals as goal
 
 pub returns : goal.returns
-returns g c =
-    let after = asked g.T.Theory.sound g.T.Theory.meaning c.args.self.now c.requires c.tightest.new.self c.args.side c.tightest.result c.tightest.ensures.kept c.tightest.ensures.answers in
-    record { kept = after.0; answers = after.1 }
+returns g c = over_tightest _ _ (g.T.Theory.meaning c.tightest.new.self) c.args.side c.tightest.result c.args.self.now.over c.tightest.ensures
