@@ -3,8 +3,7 @@ use Rattle.std.proofs.Common.{◌≡◌, ℕ, ◌+◌, ◌<◌, ◌≤◌, List,
 use Rattle.std.proofs.lemmas.List.{take_more, take_all}
 use Rattle.theory.specs.Meaning.{Meaning}
 use Rattle.histories.specs.declared.Call.{Call}
-use Rattle.histories.specs.declared.Answer.{Answer}
-use Rattle.histories.specs.Steps.{Step}
+use Rattle.histories.specs.Steps.{Answer, Step}
 use Rattle.histories.specs.Runs.{Run}
 
 pub run_append : (m k n : Meaning) (cs ds : List Call) (bs ans : List Answer) → Run m cs bs k → Run k ds ans n → Run m (cs ++ ds) (bs ++ ans) n

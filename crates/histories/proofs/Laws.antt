@@ -4,9 +4,8 @@ use Rattle.theory.specs.declared.row.Row.{Row}
 use Rattle.theory.specs.declared.sizes.Sizes.{Sizes}
 use Rattle.theory.specs.Meaning.{Meaning, empty}
 use Rattle.histories.specs.declared.Call.{Call}
-use Rattle.histories.specs.declared.Answer.{Answer}
 use Rattle.histories.specs.declared.History.{History}
-use Rattle.histories.specs.Steps.{Step}
+use Rattle.histories.specs.Steps.{Answer, Step}
 use Rattle.histories.specs.Runs.{Run}
 use Rattle.histories.specs.Told.{told, done_count, Rising, Tells}
 use Rattle.histories.specs.Law.{Law}

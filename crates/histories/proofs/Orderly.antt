@@ -13,8 +13,7 @@ use Rattle.theory.specs.Calls.{put_fault}
 use Rattle.theory.proofs.Faults.{passed_both}
 use Rattle.histories.specs.declared.Call.{Call}
 use Rattle.histories.specs.declared.Call.TheVariants.{Push, Pop, Offer, Tightest, RowAt}
-use Rattle.histories.specs.declared.Answer.{Answer}
-use Rattle.histories.specs.Steps.{Step}
+use Rattle.histories.specs.Steps.{Answer, Step}
 use Rattle.histories.specs.Runs.{Run}
 use Rattle.histories.specs.Told.{Rising}
 

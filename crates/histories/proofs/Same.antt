@@ -5,9 +5,8 @@ use Rattle.theory.proofs.Unique.{put_unique, push_unique, pop_unique, tightest_u
 use Rattle.theory.specs.declared.refusal.Refusal.{Refusal}
 use Rattle.histories.specs.declared.Call.{Call}
 use Rattle.histories.specs.declared.Call.TheVariants.{Push, Pop, Offer, Tightest, RowAt}
-use Rattle.histories.specs.declared.Answer.{Answer}
-use Rattle.histories.specs.declared.Answer.TheVariants.{Done, Refused}
-use Rattle.histories.specs.Steps.{Step, done_answer, value_answer, row_answer}
+use Rattle.histories.specs.declared.Reply.{Reply}
+use Rattle.histories.specs.Steps.{Answer, Step, done_answer, value_answer, row_answer}
 use Rattle.histories.specs.Runs.{Run}
 
 -- answers that tell equal results are equal
@@ -33,10 +32,10 @@ run_unique m k n (c ∷ cs) (a ∷ as') (b ∷ bs) r s =
     let rest = run_unique s.0 k n cs as' bs (subst (λ x. Run x cs as' k) now'.1 r.2) s.2 in
     ((λ i. now'.0 i ∷ rest.0 i), rest.1)
 
-clash : {x : Answer} {e : Refusal} → Refused e ≡ x → x ≡ Done → ⊥
+clash : {x : Answer} {e : Refusal} {r : Reply} → Err e ≡ x → x ≡ Ok r → ⊥
 clash p q = let z : ◌≡◌ {A = ℕ} 0 1 = cc in omega arith
 
-pub refused_keeps : (m n : Meaning) (c : Call) (e : Refusal) → Step m c (Refused e) n → n ≡ m
+pub refused_keeps : (m n : Meaning) (c : Call) (e : Refusal) → Step m c (Err e) n → n ≡ m
 refused_keeps m n Push e (Ok x, p, h) = absurd (clash p refl)
 refused_keeps m n Push e (Err x, p, h) = h.2
 refused_keeps m n Pop e (Ok x, p, h) = absurd (clash p refl)

@@ -1,22 +1,11 @@
--- The steps of the loops that write out what tells a new engine, and that count the calls taken. Assumes nothing.
-use Rattle.std.proofs.Common.{◌≡◌, ℕ, ◌+◌, ◌<◌, ◌≤◌, List, [], ◌∷◌, ◌++◌, map, length, get_or, take, drop, sym, refl, ap, ◌∙◌, subst, arith}
-use Rattle.std.proofs.lemmas.List.{append_assoc, drop_more, drop_all, take_rest, at_drop_more, map_more}
+-- The steps of the loop that writes out what tells a new engine. Assumes nothing.
+use Rattle.std.proofs.Common.{◌≡◌, ℕ, ◌+◌, ◌<◌, ◌≤◌, List, [], ◌∷◌, ◌++◌, map, length, get_or, drop, sym, ap, ◌∙◌, subst}
+use Rattle.std.proofs.lemmas.List.{append_assoc, drop_more, drop_all, take_rest}
 use Rattle.theory.specs.declared.row.Row.{Row}
 use Rattle.histories.specs.declared.Call.{Call}
 use Rattle.histories.specs.declared.Call.TheVariants.{Push, Offer}
-use Rattle.histories.specs.declared.Answer.{Answer}
-use Rattle.histories.specs.declared.Answer.TheVariants.{Done, Value, Found, Refused}
-use Rattle.histories.specs.Told.{part, told_from, done_count, Rising}
+use Rattle.histories.specs.Told.{part, told_from, Rising}
 use Rattle.histories.proofs.Orderly.{rising_bound}
-
-done_one : (a : Answer) (rest : List Answer) → a ≡ Done → done_count (a ∷ rest) ≡ 1 + done_count rest
-done_one a rest e = ap (λ x. done_count (x ∷ rest)) e
-
-not_done : (a : Answer) (rest : List Answer) → (a ≡ Done → ⊥) → done_count (a ∷ rest) ≡ done_count rest
-not_done Done rest ne = absurd (ne refl)
-not_done (Value v) rest ne = refl
-not_done (Found r) rest ne = refl
-not_done (Refused e) rest ne = refl
 
 -- the next level lies between the place that was reached and the end, and the levels after it rise on
 pub rising_next : (k : ℕ) (ls : List ℕ) (n i : ℕ) → i < length ls → Rising k (drop i ls) n → (k ≤ get_or ls i 0) × (get_or ls i 0 ≤ n) × Rising (get_or ls i 0) (drop (i + 1) ls) n
@@ -41,15 +30,3 @@ pub told_end : (rows : List Row) (ls : List ℕ) (k i : ℕ) (cs ds all : List C
 told_end rows ls k i cs ds all past so_far last =
     let here : told_from k rows (drop i ls) ≡ map Offer (drop k rows) = ap (told_from k rows) (drop_all i ls past) in
     last ∙ ap (λ xs. cs ++ map Offer xs) (take_rest rows k) ∙ ap (λ xs. cs ++ xs) (sym here) ∙ so_far
-
--- one row more is told
-pub told_row : (rows : List Row) (i : ℕ) (r : Row) (cs ds es : List Call) → i < length rows → r ≡ get_or rows i r → ds ≡ cs ++ map Offer (take i rows) → es ≡ ds ++ Offer r ∷ [] → es ≡ cs ++ map Offer (take (i + 1) rows)
-told_row rows i r cs ds es within read so_far pushed =
-    let more : map Offer (take (i + 1) rows) ≡ map Offer (take i rows) ++ Offer r ∷ [] = map_more Offer rows i r within ∙ ap (λ x. map Offer (take i rows) ++ Offer x ∷ []) (sym read) in
-    pushed ∙ ap (λ xs. xs ++ Offer r ∷ []) so_far ∙ append_assoc cs (map Offer (take i rows)) (Offer r ∷ []) ∙ ap (λ xs. cs ++ xs) (sym more)
-
--- one answer more is counted
-pub count_one : (xs : List Answer) (i n total : ℕ) → i < length xs → n + done_count (drop i xs) ≡ total → (get_or xs i Done ≡ Done → n + 1 + done_count (drop (i + 1) xs) ≡ total) × ((get_or xs i Done ≡ Done → ⊥) → n + done_count (drop (i + 1) xs) ≡ total)
-count_one xs i n total within h =
-    let here = at_drop_more done_count xs i Done within in
-    ((λ e. let one = done_one (get_or xs i Done) (drop (i + 1) xs) e in omega arith), (λ ne. let same = not_done (get_or xs i Done) (drop (i + 1) xs) ne in omega arith))

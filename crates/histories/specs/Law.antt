@@ -1,21 +1,19 @@
 -- The law of histories: an answer depends on the standing rows, the open levels and the sizes, and on nothing else. Assumes nothing.
-use Rattle.std.specs.Prelude.{◌≡◌, ◌+◌, List, length, vec_items}
+use Rattle.std.specs.Prelude.{◌≡◌, ◌+◌, List, length, vec_items, Err}
 use Rattle.theory.specs.declared.refusal.Refusal.{Refusal}
 use Rattle.theory.specs.declared.sizes.Sizes.{Sizes}
 use Rattle.theory.specs.Meaning.{Meaning, empty}
 use Rattle.histories.specs.declared.Call.{Call}
-use Rattle.histories.specs.declared.Answer.{Answer}
-use Rattle.histories.specs.declared.Answer.TheVariants.{Refused}
 use Rattle.histories.specs.declared.Fault.{Fault}
 use Rattle.histories.specs.declared.Fault.TheVariants.{Memory, Unlike}
 use Rattle.histories.specs.declared.History.{History}
-use Rattle.histories.specs.Steps.{Step}
+use Rattle.histories.specs.Steps.{Answer, Step}
 use Rattle.histories.specs.Runs.{Run}
 use Rattle.histories.specs.Told.{told, all_done}
 
 -- a refused call changes neither rows nor levels
 abbrev pub RefusalsKeep : Type 0
-RefusalsKeep = (m n : Meaning) (c : Call) (e : Refusal) → Step m c (Refused e) n → n ≡ m
+RefusalsKeep = (m n : Meaning) (c : Call) (e : Refusal) → Step m c (Err e) n → n ≡ m
 
 -- a call has one answer and leaves one meaning
 abbrev pub OneAnswer : Type 0

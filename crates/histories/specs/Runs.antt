@@ -2,8 +2,7 @@
 use Rattle.std.specs.Prelude.{◌≡◌, List, [], ◌∷◌}
 use Rattle.theory.specs.Meaning.{Meaning}
 use Rattle.histories.specs.declared.Call.{Call}
-use Rattle.histories.specs.declared.Answer.{Answer}
-use Rattle.histories.specs.Steps.{Step}
+use Rattle.histories.specs.Steps.{Answer, Step}
 
 -- the calls, made one after the other from m on, get these answers and leave n
 abbrev pub Run : Meaning → List Call → List Answer → Meaning → Type 0

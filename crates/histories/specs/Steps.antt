@@ -6,21 +6,25 @@ use Rattle.theory.specs.Meaning.{Meaning}
 use Rattle.theory.specs.Calls as calls
 use Rattle.histories.specs.declared.Call.{Call}
 use Rattle.histories.specs.declared.Call.TheVariants.{Push, Pop, Offer, Tightest, RowAt}
-use Rattle.histories.specs.declared.Answer.{Answer}
-use Rattle.histories.specs.declared.Answer.TheVariants.{Done, Value, Found, Refused}
+use Rattle.histories.specs.declared.Reply.{Reply}
+use Rattle.histories.specs.declared.Reply.TheVariants.{Done, Value, Found}
+
+-- what a call is answered: a reply, or the refusal
+abbrev pub Answer : Type 0
+Answer = Result Reply Refusal
 
 -- the answer by case: a call that is taken, a tightest value, a row, or the refusal
 abbrev pub done_answer : Result (Unit {0}) Refusal → Answer
-done_answer (Ok _) = Done
-done_answer (Err e) = Refused e
+done_answer (Ok _) = Ok Done
+done_answer (Err e) = Err e
 
 abbrev pub value_answer : Result (Option ℤ) Refusal → Answer
-value_answer (Ok g) = Value g
-value_answer (Err e) = Refused e
+value_answer (Ok g) = Ok (Value g)
+value_answer (Err e) = Err e
 
 abbrev pub row_answer : Result Row Refusal → Answer
-row_answer (Ok r) = Found r
-row_answer (Err e) = Refused e
+row_answer (Ok r) = Ok (Found r)
+row_answer (Err e) = Err e
 
 -- the call c is answered by a, and the rows and levels of m become those of n
 abbrev pub Step : Meaning → Call → Answer → Meaning → Type 0

@@ -1,12 +1,12 @@
 -- How a new engine is told what stands. Assumes nothing.
-use Rattle.std.specs.Prelude.{◌≡◌, ℕ, ◌+◌, ◌-◌, ◌≤◌, List, [], ◌∷◌, ◌++◌, map, take, drop}
+use Rattle.std.specs.Prelude.{◌≡◌, ℕ, ◌-◌, ◌≤◌, Bool, true, false, List, [], ◌∷◌, ◌++◌, map, filter, length, take, drop, Ok, Err}
 use Rattle.theory.specs.declared.row.Row.{Row}
 use Rattle.theory.specs.Meaning.{Meaning}
 use Rattle.histories.specs.Runs.{Run}
 use Rattle.histories.specs.declared.Call.{Call}
 use Rattle.histories.specs.declared.Call.TheVariants.{Push, Offer}
-use Rattle.histories.specs.declared.Answer.{Answer}
-use Rattle.histories.specs.declared.Answer.TheVariants.{Done, Value, Found, Refused}
+use Rattle.histories.specs.declared.Reply.TheVariants.{Done, Value, Found}
+use Rattle.histories.specs.Steps.{Answer}
 
 -- the rows from place k up to place l
 abbrev pub part : ℕ → ℕ → List Row → List Row
@@ -23,15 +23,18 @@ told m = told_from 0 m.rows m.levels
 
 -- each call is taken
 abbrev pub all_done : List Call → List Answer
-all_done cs = map (λ _. Done) cs
+all_done cs = map (λ _. Ok Done) cs
+
+-- the call was taken
+abbrev pub is_done : Answer → Bool
+is_done (Ok Done) = true
+is_done (Ok (Value v)) = false
+is_done (Ok (Found r)) = false
+is_done (Err e) = false
 
 -- how many calls were taken
 abbrev pub done_count : List Answer → ℕ
-done_count [] = 0
-done_count (Done ∷ rest) = 1 + done_count rest
-done_count (Value v ∷ rest) = done_count rest
-done_count (Found r ∷ rest) = done_count rest
-done_count (Refused e ∷ rest) = done_count rest
+done_count answers = length (filter is_done answers)
 
 -- levels that rise from at least k to at most n
 abbrev pub Rising : ℕ → List ℕ → ℕ → Type 0
