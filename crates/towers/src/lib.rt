@@ -5,19 +5,27 @@
 use dense::OverDense;
 use doubled::OverDoubled;
 use filter::OverFilter;
-use sparse::checked::Checked;
-use sparse::memory::{EDGES, HEADS, LEVELS, MARKS, Memory, SAVED};
-use sparse::{Edge, Potentials};
+use sparse::room::Room;
+use std::fmt;
 use theory::Start;
 
-#[derive(Clone, Copy)]
+#[derive(Clone, Copy, PartialEq, Eq, Debug)]
 pub enum Bottom {
     Dense,
     Sparse,
 }
 
+impl fmt::Display for Bottom {
+    fn fmt<W: fmt::Write>(&self, f: &mut fmt::Formatter<W>) -> fmt::Result {
+        f.write_str(match self {
+            Bottom::Dense => "dense",
+            Bottom::Sparse => "sparse",
+        })
+    }
+}
+
 // The layers, the lowest first.
-#[derive(Clone, Copy)]
+#[derive(Clone, Copy, PartialEq, Eq, Debug)]
 pub enum Layers {
     None,
     Filter,
@@ -27,10 +35,25 @@ pub enum Layers {
     DoubledDoubled,
 }
 
-#[derive(Clone, Copy)]
+#[derive(Clone, Copy, PartialEq, Eq, Debug)]
 pub struct Tower {
     pub bottom: Bottom,
     pub layers: Layers,
+}
+
+// Bottom first.
+impl fmt::Display for Tower {
+    fn fmt<W: fmt::Write>(&self, f: &mut fmt::Formatter<W>) -> fmt::Result {
+        let Tower { bottom, layers } = self;
+        match layers {
+            Layers::None => write!(f, "{bottom}"),
+            Layers::Filter => write!(f, "{bottom} filter"),
+            Layers::Doubled => write!(f, "{bottom} doubled"),
+            Layers::DoubledFilter => write!(f, "{bottom} doubled filter"),
+            Layers::FilterDoubled => write!(f, "{bottom} filter doubled"),
+            Layers::DoubledDoubled => write!(f, "{bottom} doubled doubled"),
+        }
+    }
 }
 
 impl Tower {
@@ -44,7 +67,7 @@ impl Tower {
     }
 }
 
-// What is done with a tower, whichever it is.
+// What is done with a tower, whichever it is. A trait and no closure, since what is done is generic in what starts the tower.
 pub trait Visit {
     type Outcome;
 
@@ -66,19 +89,8 @@ pub fn over<V: Visit>(tower: Tower, visit: V) -> V::Outcome {
 }
 
 fn over_sparse<V: Visit>(layers: Layers, visit: V) -> V::Outcome {
-    let mut edges = [Edge::blank(); EDGES];
-    let mut levels = [0; LEVELS];
-    let mut saved = [Potentials::zero(); SAVED];
-    let mut heads = [0; HEADS];
-    let mut marks = [0; MARKS];
-    let memory = Memory {
-        edges: &mut edges,
-        levels: &mut levels,
-        saved: &mut saved,
-        heads: &mut heads,
-        marks: &mut marks,
-    };
-    layered(layers, Checked::new(memory), visit)
+    let mut room = Room::new();
+    layered(layers, room.lend(), visit)
 }
 
 fn layered<S: Start + Drop, V: Visit>(layers: Layers, bottom: S, visit: V) -> V::Outcome {

@@ -2,28 +2,59 @@
 // standard error.
 #![tactic(auto)]
 
-mod bottoms;
-mod compare;
-mod dice;
-mod measure;
-mod oracle;
-
-use bottoms::{measure_dense, measure_sparse, try_dense, try_sparse};
-use compare::Tally;
-use measure::Load;
+use histories::Fault;
+use std::alloc::Global;
 use std::io;
+use theory::sizes::Breadth;
+use towers::{Bottom, Layers, Tower};
+use trying::dice::Dice;
+use trying::measure::{Load, measure};
+use trying::oracle;
+use trying::tally::Tally;
+use trying::trial::Trial;
 
-fn print_tally(rt: &HostRuntime, name: &str, tally: Tally) -> io::Result<()> {
-    let calls = tally.calls;
-    let refused = tally.refused;
-    let wrong = tally.wrong;
-    println!(rt; "{name}: {calls} calls, {refused} refused, {wrong} wrong")
+const ENGINES: u32 = 200;
+
+const CALLS: u32 = 60;
+
+const BOTTOMS: [Tower; 2] = [
+    Tower {
+        bottom: Bottom::Dense,
+        layers: Layers::None,
+    },
+    Tower {
+        bottom: Bottom::Sparse,
+        layers: Layers::None,
+    },
+];
+
+// The same calls over each bottom.
+fn try_bottom(alloc: Global, bottom: Tower) -> Result<Tally, Fault> {
+    let mut tally = Tally::default();
+    let mut dice = Dice::new(1);
+    for _ in 0..ENGINES {
+        let trial = Trial::new(
+            alloc,
+            Breadth::Differences,
+            oracle::DIFFERENCES,
+            CALLS,
+            || dice.difference_call(oracle::UNKNOWNS),
+        )?;
+        let _ = trial.try_over(alloc, bottom, &mut tally)?;
+    }
+    Ok(tally)
 }
 
 fn main(rt: HostRuntime) -> io::Result<()> {
-    print_tally(&rt, "dense", try_dense(rt.alloc())?)?;
-    print_tally(&rt, "sparse", try_sparse(rt.alloc())?)?;
-    let load = Load::new(rt.alloc(), 1000)?;
-    measure_dense(&rt, &load)?;
-    measure_sparse(&rt, &load)
+    for bottom in &BOTTOMS {
+        match try_bottom(rt.alloc(), *bottom) {
+            Ok(tally) => println!(rt; "{bottom}: {tally}")?,
+            Err(fault) => println!(rt; "{fault}")?,
+        }
+    }
+    let load = Load::new(rt.alloc(), 1000, |dice| dice.difference(64))?;
+    for bottom in &BOTTOMS {
+        measure(&rt, *bottom, &load)?;
+    }
+    Ok(())
 }

@@ -1,67 +1,95 @@
 // Tries every tower: its answers to random calls against a plain reference, written to standard output, and the speed of
-// some, written to standard error.
+// each, written to standard error.
 #![tactic(auto)]
 
-mod dice;
-mod lines;
-mod measure;
-mod oracle;
-mod reference;
-mod trial;
-
-use dice::Dice;
 use histories::Fault;
-use lines::Line;
-use measure::{Load, measure};
-use std::alloc::Global;
+use std::alloc::{AllocError, Global};
 use std::io;
 use theory::sizes::Breadth;
-use trial::Trial;
+use towers::{Bottom, Layers, Tower};
+use trying::dice::Dice;
+use trying::measure::{Load, measure};
+use trying::oracle;
+use trying::tally::Tally;
+use trying::trial::Trial;
 
 const TRIALS: u32 = 60;
 
-// The same trials for every tower of the breadth.
-fn try_towers(heap: Global, breadth: Breadth, lines: &mut [Line]) -> Result<(), Fault> {
+const CALLS: u32 = 40;
+
+// The layers that leave differences, and those that make sums of them.
+const NARROW: [Layers; 2] = [Layers::None, Layers::Filter];
+
+const WIDE: [Layers; 4] = [
+    Layers::Doubled,
+    Layers::DoubledFilter,
+    Layers::FilterDoubled,
+    Layers::DoubledDoubled,
+];
+
+#[derive(Clone, Copy)]
+struct Line {
+    tower: Tower,
+    tally: Tally,
+}
+
+// The layers over each bottom, in the order of the report.
+fn lines(alloc: Global, layers: &[Layers]) -> Result<Vec<Line>, AllocError> {
+    let mut lines = Vec::new(alloc);
+    for layers in layers {
+        for bottom in [Bottom::Dense, Bottom::Sparse] {
+            lines.push(Line {
+                tower: Tower {
+                    bottom,
+                    layers: *layers,
+                },
+                tally: Tally::default(),
+            })?;
+        }
+    }
+    Ok(lines)
+}
+
+// The same trials for every tower. The answers to the last call, made once more on both engines, count as a call too.
+fn try_towers(alloc: Global, breadth: Breadth, lines: &mut [Line]) -> Result<(), Fault> {
     let mut dice = Dice::new(1);
     for _ in 0..TRIALS {
-        let trial = Trial::new(heap, breadth, &mut dice)?;
+        let trial = Trial::new(alloc, breadth, oracle::SUMS, CALLS, || {
+            dice.call(oracle::UNKNOWNS)
+        })?;
         for line in lines.iter_mut() {
-            trial.try_over(heap, line.tower, &mut line.tally)?;
+            let history = trial.try_over(alloc, line.tower, &mut line.tally)?;
+            line.tally.note(history.first, Some(history.second));
         }
     }
     Ok(())
 }
 
-fn print_trials(rt: &HostRuntime, breadth: Breadth, lines: &mut [Line]) -> io::Result<()> {
-    if try_towers(rt.alloc(), breadth, lines).is_err() {
-        return println!(rt; "out of memory");
+fn print_trials(rt: &HostRuntime, breadth: Breadth, layers: &[Layers]) -> io::Result<()> {
+    let mut lines = lines(rt.alloc(), layers)?;
+    if let Err(fault) = try_towers(rt.alloc(), breadth, lines.as_mut_slice()) {
+        return println!(rt; "{fault}");
     }
-    for line in lines.iter() {
-        let name = line.name;
-        let calls = line.tally.calls;
-        let refused = line.tally.refused;
-        let wrong = line.tally.wrong;
-        println!(rt; "{name}: {calls} calls, {refused} refused, {wrong} wrong")?;
+    for line in &lines {
+        println!(rt; "{}: {}", line.tower, line.tally)?;
     }
     Ok(())
 }
 
-fn measure_towers(rt: &HostRuntime, lines: &[Line], load: &Load) -> io::Result<()> {
-    for line in lines {
-        measure(rt, line.name, line.tower, load)?;
+fn measure_towers(rt: &HostRuntime, layers: &[Layers], load: &Load) -> io::Result<()> {
+    for line in &lines(rt.alloc(), layers)? {
+        measure(rt, line.tower, load)?;
     }
     Ok(())
 }
 
 fn main(rt: HostRuntime) -> io::Result<()> {
-    let mut narrow = lines::narrow();
-    let mut wide = lines::wide();
-    print_trials(&rt, Breadth::Differences, &mut narrow)?;
-    print_trials(&rt, Breadth::Sums, &mut wide)?;
-    let differences = Load::new(rt.alloc(), Breadth::Differences, 64, 1000)?;
-    measure_towers(&rt, &narrow, &differences)?;
-    let sums = Load::new(rt.alloc(), Breadth::Sums, 32, 500)?;
-    measure_towers(&rt, &wide[0..6], &sums)?;
-    let few = Load::new(rt.alloc(), Breadth::Sums, 16, 200)?;
-    measure_towers(&rt, &wide[6..8], &few)
+    print_trials(&rt, Breadth::Differences, &NARROW)?;
+    print_trials(&rt, Breadth::Sums, &WIDE)?;
+    let differences = Load::new(rt.alloc(), 1000, |dice| dice.signed_difference(64))?;
+    measure_towers(&rt, &NARROW, &differences)?;
+    let sums = Load::new(rt.alloc(), 500, |dice| dice.side(32))?;
+    measure_towers(&rt, &WIDE[0..3], &sums)?;
+    let few = Load::new(rt.alloc(), 200, |dice| dice.side(16))?;
+    measure_towers(&rt, &WIDE[3..4], &few)
 }

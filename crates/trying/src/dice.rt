@@ -27,7 +27,7 @@ impl Dice {
         (self.state >> 33) % n
     }
 
-    pub fn unknown(&mut self, unknowns: u32) -> u32
+    fn unknown(&mut self, unknowns: u32) -> u32
         requires { 0 < unknowns }
     {
         self.roll(u64::from(unknowns)) as u32
@@ -41,18 +41,34 @@ impl Dice {
         }
     }
 
-    // x(u) − x(v) or x(v) − x(u), now and then of one unknown and itself.
+    // A difference of two unknowns, now and then of one and itself: the unknowns first, then the sign.
     pub fn difference(&mut self, unknowns: u32) -> Side
         requires { 0 < unknowns }
     {
-        let a = self.sign();
-        let b = match a {
-            Sign::Plus => Sign::Minus,
-            _ => Sign::Plus,
-        };
         let u = self.unknown(unknowns);
         let v = self.unknown(unknowns);
-        Side { a, b, u, v }
+        let a = self.sign();
+        Side {
+            a,
+            b: opposite(a),
+            u,
+            v,
+        }
+    }
+
+    // The same, the sign first.
+    pub fn signed_difference(&mut self, unknowns: u32) -> Side
+        requires { 0 < unknowns }
+    {
+        let a = self.sign();
+        let u = self.unknown(unknowns);
+        let v = self.unknown(unknowns);
+        Side {
+            a,
+            b: opposite(a),
+            u,
+            v,
+        }
     }
 
     // A bound, a difference or a sum.
@@ -74,7 +90,28 @@ impl Dice {
         Side { a, b, u, v }
     }
 
-    // Offers and questions mostly; a row is bounded by a number of −2 to 2.
+    // The side, bounded by a number of −2 to 2.
+    fn bound(&mut self, side: Side) -> Row {
+        let c = self.roll(5) as i64 - 2;
+        Row { side, c }
+    }
+
+    // Offers and questions mostly, of differences.
+    pub fn difference_call(&mut self, unknowns: u32) -> Call
+        requires { 0 < unknowns }
+    {
+        match self.roll(8) {
+            0 => Call::Push,
+            1 => Call::Pop,
+            2..=4 => Call::Tightest(self.difference(unknowns)),
+            _ => {
+                let side = self.difference(unknowns);
+                Call::Offer(self.bound(side))
+            }
+        }
+    }
+
+    // Offers and questions mostly, of all sides, and rows at their places.
     pub fn call(&mut self, unknowns: u32) -> Call
         requires { 0 < unknowns }
     {
@@ -82,12 +119,18 @@ impl Dice {
             0 => Call::Push,
             1 => Call::Pop,
             2 => Call::RowAt(self.roll(8) as u32),
-            3 | 4 | 5 => Call::Tightest(self.side(unknowns)),
+            3..=5 => Call::Tightest(self.side(unknowns)),
             _ => {
                 let side = self.side(unknowns);
-                let c = self.roll(5) as i64 - 2;
-                Call::Offer(Row { side, c })
+                Call::Offer(self.bound(side))
             }
         }
+    }
+}
+
+fn opposite(sign: Sign) -> Sign {
+    match sign {
+        Sign::Plus => Sign::Minus,
+        _ => Sign::Plus,
     }
 }

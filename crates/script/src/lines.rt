@@ -1,0 +1,83 @@
+// The lines of a script: which of them are calls, and the towers that the engines stand over.
+use crate::words::{Said, read_line, says_nothing};
+use histories::Call;
+use std::alloc::{AllocError, Global};
+use towers::Tower;
+
+// A line that is answered: a call, by its place among the calls, or one that says nothing known.
+#[derive(Clone, Copy)]
+pub enum Line {
+    Unreadable,
+    Call(usize),
+}
+
+#[derive(Clone, Copy)]
+pub struct Towers {
+    pub first: Tower,
+    pub second: Tower,
+}
+
+#[derive(Drop)]
+pub struct Script {
+    pub towers: Option<Towers>,
+    pub lines: Vec<Line>,
+    pub calls: Vec<Call>,
+}
+
+impl Script {
+    // A script whose first line names no tower that is known has none, and all its lines are unreadable.
+    pub fn read<K: Fn(Tower) -> bool>(
+        alloc: Global,
+        text: &str,
+        known: K,
+    ) -> Result<Script, AllocError>
+        requires { K.IsAlwaysCallable known }
+    {
+        let mut script = Script {
+            towers: None,
+            lines: Vec::new(alloc),
+            calls: Vec::new(alloc),
+        };
+        let mut first = true;
+        for line in text.lines() {
+            if says_nothing(line) {
+                continue;
+            }
+            match (first, read_line(line)) {
+                (true, Some(Said::Over(tower))) if known(tower) => script.towers = Some(Towers {
+                    first: tower,
+                    second: tower,
+                }),
+                (_, Some(Said::Against(tower))) if known(tower) => script.compare_with(tower)?,
+                (_, Some(Said::Call(call))) => script.call(call)?,
+                _ => script.lines.push(Line::Unreadable)?,
+            }
+            first = false;
+        }
+        Ok(script)
+    }
+
+    fn call(&mut self, call: Call) -> Result<(), AllocError> {
+        if self.towers.is_none() {
+            return Ok(self.lines.push(Line::Unreadable)?);
+        }
+        self.lines.push(Line::Call(self.calls.len()))?;
+        Ok(self.calls.push(call)?)
+    }
+
+    // A second tower of other sizes is as unknown as one that is not on the list.
+    fn compare_with(&mut self, second: Tower) -> Result<(), AllocError> {
+        match self.towers {
+            Some(Towers { first, .. }) if first.halvings() == second.halvings() => {
+                self.towers = Some(Towers { first, second });
+                Ok(())
+            }
+            _ => Ok(self.lines.push(Line::Unreadable)?),
+        }
+    }
+
+    // The call that both engines answer in the end: the last one, or a pop where there was none.
+    pub fn last_call(&self) -> Call {
+        self.calls.last().copied().unwrap_or(Call::Pop)
+    }
+}
