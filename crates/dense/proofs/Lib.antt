@@ -1,4 +1,4 @@
 pub mod Lines
-pub mod Sums
 pub mod Stacks
-pub mod States
+pub mod Steps
+pub mod Sums

@@ -6,7 +6,7 @@ use Rattle.theory.specs.declared.row.Row.{Row}
 use Rattle.dense.specs.declared.Level.{Level}
 use Rattle.dense.specs.Entries.{entry}
 use Rattle.differences.specs.Tabled.{Tabled}
-use Rattle.dense.specs.State.{Stack}
+use Rattle.dense.specs.Levels.{Stack}
 
 stack_low : (low : ℕ) (rows : List Row) (ls : List Level) → Stack low rows ls → low ≤ length rows
 stack_low low rows [] h = h
@@ -24,6 +24,7 @@ pub stack_push : (low : ℕ) (rows : List Row) (ls : List Level) (l : Level) →
 stack_push low rows [] l now t h = (omega arith, rw (take_all l.count rows (omega arith)) t, omega arith)
 stack_push low rows (x ∷ ls) l now t h = (h.0, h.1, stack_push x.count rows ls l now t h.2)
 
+-- what closing the level l leaves, and what it was
 pub record Closed (low : ℕ) (rows : List Row) (ls : List Level) (l : Level) : Type 0 where
   pub from_low : low ≤ l.count
   pub within : l.count ≤ length rows

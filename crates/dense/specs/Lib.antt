@@ -1,3 +1,4 @@
 pub mod Entries
+pub mod Levels
 pub mod State
 pub mod Sanity

@@ -9,54 +9,64 @@
 // All memory is taken at the start: no later call allocates.
 #![tactic(auto)]
 
-ghost use Rattle.std.specs.Prelude.{◌≡◌, ◌<◌, [], ◌∷◌, ◌++◌, length, IfOk, None};
-ghost use Rattle.theory.specs.Meaning.{empty, with_row, with_level, without_level};
+ghost use Rattle.std.specs.Prelude.{◌≡◌, ◌<◌, ◌≤◌, [], ◌∷◌, ◌++◌, length, IfOk, None, vec_len, vec_capacity};
+ghost use Rattle.std.specs.List.{AllByRecursion};
+ghost use Rattle.theory.specs.Meaning.{empty, with_row};
 ghost use Rattle.theory.specs.Rows.{Feasible, Greatest};
 ghost use Rattle.theory.specs.Rules.{side_fault};
 ghost use Rattle.theory.specs.Calls.{PointChecked};
-ghost use Rattle.differences.specs.Sides.{bottom_sizes, Fair};
-ghost use Rattle.dense.specs.State.{meaning_of, Sound};
-ghost use Rattle.dense.specs.Sanity.{sound_sane};
+ghost use Rattle.differences.specs.Sides.{bottom_sizes, Fair, Difference};
+ghost use Rattle.differences.specs.Tabled.{Tabled};
+ghost use Rattle.differences.specs.Props.{Tabled-prop, AllDifferences-prop};
+ghost use Rattle.dense.specs.Entries.{entry};
+ghost use Rattle.dense.specs.Levels.{Stack, Stack-prop};
 
 use differences::{SIZES, ends};
 use matrix::Matrix;
 use std::alloc::{AllocError, Global};
 use theory::refusal::Refusal;
 use theory::row::{Row, Side};
-use theory::rules::{check_row, check_side};
+use theory::rules::{check_push, check_put, check_side};
 use theory::sizes::Sizes;
 use theory::{Start, Theory};
 
 mod matrix;
 
-#[derive(Clone, Copy)]
+#[derive(Clone, Copy, Debug)]
 struct Level {
     count: usize,
     matrix: Matrix,
 }
 
-#[derive(Drop)]
+// The matrix is that of the rows, each level's matrix is that of the rows of its time, and there is room for all that may come.
+#[derive(Debug, Drop)]
 pub struct Dense {
     rows: Vec<Row>,
     levels: Vec<Level>,
     matrix: Matrix,
+    ghost table: { Tabled 64 rows.items (entry matrix) } by { Tabled-prop 64 rows.items (entry matrix) },
+    ghost differences: { AllByRecursion (Difference 64 4000000) rows.items } by { AllDifferences-prop 64 4000000 rows.items },
+    ghost stack: { Stack 0 rows.items levels.items } by { Stack-prop 0 rows.items levels.items },
+    ghost rows_fit: { vec_len rows ≤ 1024 },
+    ghost rows_room: { 1024 ≤ vec_capacity rows },
+    ghost levels_fit: { vec_len levels ≤ 128 },
+    ghost levels_room: { 128 ≤ vec_capacity levels },
 }
 
 impl Dense {
-    pub fn new(heap: Global) -> Result<Dense, AllocError>
-        ensures { IfOk result (λ d. Sound d × (meaning_of d ≡ empty bottom_sizes)) }
+    ghost use Rattle.dense.specs.State.{meaning_of};
+
+    pub fn new(alloc: Global) -> Result<Dense, AllocError>
+        ensures { IfOk result (λ d. meaning_of d ≡ empty bottom_sizes) }
     {
-        let rows = Vec::with_capacity(heap, SIZES.space as usize)?;
-        let levels = Vec::with_capacity(heap, SIZES.depth as usize)?;
         Ok(Dense {
-            rows,
-            levels,
+            rows: Vec::with_capacity(alloc, SIZES.space as usize)?,
+            levels: Vec::with_capacity(alloc, SIZES.depth as usize)?,
             matrix: Matrix::new(),
         })
     }
 
     fn greatest(&self, side: Side) -> Option<i64>
-        requires sound { Sound self.now }
         requires fair { side_fault bottom_sizes side ≡ None }
         ensures { Greatest (meaning_of self.now).rows side result }
     {
@@ -66,64 +76,35 @@ impl Dense {
 
     // Rule 7.
     fn check_point(&self, row: Row) -> Result<(), Refusal>
-        requires sound { Sound self.now }
         requires fair { Fair row }
         ensures { PointChecked (meaning_of self.now).rows row result }
     {
         let (u, v) = ends(row.side);
-        let Some(most) = self.matrix.at(v, u) else {
-            return Ok(());
-        };
-        if most + row.c < 0 {
+        if self.matrix.at(v, u).is_some_and(|most| most + row.c < 0) {
             return Err(Refusal::Contradiction);
         }
         Ok(())
     }
 
     fn accept(&mut self, row: Row)
-        requires sound { Sound self.old }
         requires fair { Fair row }
         requires room { length (meaning_of self.old).rows < 1024 }
         requires point { Feasible ((meaning_of self.old).rows ++ row ∷ []) }
-        ensures kept { Sound self.new }
-        ensures after { meaning_of self.new ≡ with_row (meaning_of self.old) row }
+        ensures { meaning_of self.new ≡ with_row (meaning_of self.old) row }
     {
         let (u, v) = ends(row.side);
         self.matrix.relax(u, v, row.c);
         self.rows.push_reserved(row);
     }
-
-    fn open_level(&mut self)
-        requires sound { Sound self.old }
-        requires room { length (meaning_of self.old).levels < 128 }
-        ensures kept { Sound self.new }
-        ensures after { meaning_of self.new ≡ with_level (meaning_of self.old) }
-    {
-        let level = Level {
-            count: self.rows.len(),
-            matrix: self.matrix,
-        };
-        self.levels.push_reserved(level);
-    }
-
-    fn close_level(&mut self)
-        requires sound { Sound self.old }
-        requires opened { 0 < length (meaning_of self.old).levels }
-        ensures kept { Sound self.new }
-        ensures after { meaning_of self.new ≡ without_level (meaning_of self.old) }
-    {
-        let level = self.levels.pop().unwrap();
-        self.rows.truncate(level.count);
-        self.matrix = level.matrix;
-    }
 }
 
 impl Theory for Dense {
+    ghost use Rattle.dense.specs.State.{meaning_of};
+    ghost use Rattle.dense.specs.Sanity.{sane_meaning};
+
     ghost meaning = { meaning_of };
 
-    ghost sound = { Sound };
-
-    ghost sane = { sound_sane };
+    ghost sane = { sane_meaning };
 
     fn sizes(&self) -> Sizes {
         SIZES
@@ -139,10 +120,7 @@ impl Theory for Dense {
 
     // 64 steps for each unknown i with a bound on x(i) − x(u), where u is the row's first unknown; refused, a few steps.
     fn put(&mut self, row: Row) -> Result<(), Refusal> {
-        check_row(SIZES, row)?;
-        if self.row_count() >= SIZES.space {
-            return Err(Refusal::Space);
-        }
+        check_put(SIZES, self.row_count(), row)?;
         self.check_point(row)?;
         self.accept(row);
         Ok(())
@@ -150,19 +128,19 @@ impl Theory for Dense {
 
     // One copy of the matrix.
     fn push(&mut self) -> Result<(), Refusal> {
-        if self.level_count() >= SIZES.depth {
-            return Err(Refusal::Depth);
-        }
-        self.open_level();
+        check_push(SIZES, self.level_count())?;
+        self.levels.push_reserved(Level {
+            count: self.rows.len(),
+            matrix: self.matrix,
+        });
         Ok(())
     }
 
     // One copy of the matrix, and a step for each row that goes.
     fn pop(&mut self) -> Result<(), Refusal> {
-        if self.level_count() == 0 {
-            return Err(Refusal::NoLevel);
-        }
-        self.close_level();
+        let level = self.levels.pop().ok_or(Refusal::NoLevel)?;
+        self.rows.truncate(level.count);
+        self.matrix = level.matrix;
         Ok(())
     }
 
@@ -174,7 +152,7 @@ impl Theory for Dense {
 }
 
 // What starts dense theories.
-#[derive(Clone, Copy)]
+#[derive(Clone, Copy, Debug)]
 pub struct OverDense;
 
 impl Start for OverDense {
@@ -182,7 +160,7 @@ impl Start for OverDense {
 
     ghost starts = { λ _. bottom_sizes };
 
-    fn start(self, heap: Global) -> Result<Dense, AllocError> {
-        Dense::new(heap)
+    fn start(self, alloc: Global) -> Result<Dense, AllocError> {
+        Dense::new(alloc)
     }
 }

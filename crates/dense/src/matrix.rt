@@ -11,7 +11,7 @@ const SIDE: usize = 64;
 type Line = [Option<i64>; SIDE];
 
 // Place j of line i bounds x(i) − x(j) from above, or is empty.
-#[derive(Clone, Copy)]
+#[derive(Clone, Copy, Debug)]
 pub struct Matrix {
     lines: [Line; SIDE],
 }
@@ -22,8 +22,8 @@ impl Matrix {
         ensures { Holds result no_bounds }
     {
         let mut lines = [[None; SIDE]; SIDE];
-        for i in 0..SIDE {
-            lines[i][i] = Some(0);
+        for (i, line) in lines.iter_mut().enumerate() {
+            line[i] = Some(0);
         }
         Matrix { lines }
     }
@@ -45,8 +45,8 @@ impl Matrix {
         ensures { Holds self.new (with_row (entry self.old) u v c) }
     {
         let onward = self.lines[v];
-        for i in 0..SIDE {
-            relax_line(&mut self.lines[i], u, c, &onward);
+        for line in &mut self.lines {
+            relax_line(line, u, c, &onward);
         }
     }
 }
@@ -59,12 +59,12 @@ fn relax_line(line: &mut Line, u: usize, c: i64, onward: &Line)
     requires going { (j : ℕ) → j < 64 → Near far (of_line onward.now j) }
     ensures { LineHolds line.new (line_with_row line.old u c onward.now) }
 {
-    let through = sum(line[u], Some(c));
-    if through.is_none() {
+    let Some(through) = sum(line[u], Some(c)) else {
         return;
-    }
-    for j in 0..SIDE {
-        line[j] = lesser(line[j], sum(through, onward[j]));
+    };
+    // A proof would know nothing of what is written through a `zip` of `iter_mut`.
+    for (j, bound) in line.iter_mut().enumerate() {
+        *bound = lesser(*bound, sum(Some(through), onward[j]));
     }
 }
 
@@ -73,8 +73,5 @@ fn sum(a: Option<i64>, b: Option<i64>) -> Option<i64>
     requires second { Near far b }
     ensures { result ≡ sum_of a b }
 {
-    match (a, b) {
-        (Some(x), Some(y)) => Some(x + y),
-        _ => None,
-    }
+    Some(a? + b?)
 }

@@ -27,7 +27,7 @@ pub fn replay<K: Fn(Tower) -> bool>(rt: &HostRuntime, known: K) -> io::Result<()
         Some(towers) => over_both(
             towers.first,
             towers.second,
-            Replay {
+            Replaying {
                 rt,
                 script: &script,
             },
@@ -37,16 +37,16 @@ pub fn replay<K: Fn(Tower) -> bool>(rt: &HostRuntime, known: K) -> io::Result<()
 }
 
 #[derive(Drop)]
-struct Replay<'a> {
+struct Replaying<'a> {
     rt: &'a HostRuntime,
     script: &'a Script,
 }
 
-impl<'a> VisitBoth for Replay<'a> {
+impl<'a> VisitBoth for Replaying<'a> {
     type Outcome = io::Result<()>;
 
     fn visit_both<P: Start + Drop, Q: Start + Drop>(self, first: P, second: Q) -> io::Result<()> {
-        let Replay { rt, script } = self;
+        let Replaying { rt, script } = self;
         match histories::run(
             rt.alloc(),
             first,

@@ -1,30 +1,27 @@
-use Rattle.std.proofs.Common.{◌<◌, vec_len, refl, arith, w64, SFits, rules}
+use Rattle.std.proofs.Common.{w64, SFits, rules}
+use Rattle.std.proofs.ByRecursion.{All-push}
 use Rattle.std.proofs.lemmas.Int.{to_z-of_z}
-use Rattle.dense.specs.declared.Dense.{Dense}
-use Rattle.differences.proofs.Sides.{ends_of, fair_side, fair_near}
-use Rattle.dense.proofs.States.{sound_near, accept_sound, accept_meaning}
+use Rattle.differences.specs.Sides.{Difference}
+use Rattle.differences.proofs.Sides.{fair_difference}
+use Rattle.differences.proofs.Tables.{table_near}
+use Rattle.dense.proofs.Stacks.{stack_row}
+use Rattle.dense.proofs.Steps.{table_accepts}
 use Rattle.dense.proofs.Dense.accept.Goals as goal
 
-pub relax-requires : goal.relax-requires
-relax-requires c =
-    let e = ends_of c.args.row.side (fair_side c.args.row c.requires.fair) in
-    let fits : SFits w64 c.args.row.c = search rules in
-    record {
-      from = omega (arith, e.first_in, c.ends-u.ensures.0);
-      to = omega (arith, e.second_in, c.ends-u.ensures.1);
-      near = simp to_z-of_z (fair_near c.args.row c.requires.fair);
-      small = sound_near c.args.self.now c.requires.sound;
-    }
+pub relax-requires-clause-small : goal.relax-requires-clause-small
+relax-requires-clause-small c = let d = c.args.self.now in table_near 64 4000000 _ _ d.differences d.table
 
-pub returns : goal.returns
-returns c =
+pub invariant_of-self-clause-table : goal.invariant_of-self-clause-table
+invariant_of-self-clause-table c =
     let d = c.args.self.now in
-    let e : Dense = record { rows = c.push_reserved.new.self; levels = d.levels; matrix = c.relax.new.self } in
-    let room : vec_len d.rows < 1024 = omega (arith, c.requires.room, d.rows.ok.0) in
-    let items = c.push_reserved.ensures.items in
     let fits : SFits w64 c.args.row.c = search rules in
     let relaxed = simp (to_z-of_z, c.ends-u.ensures.0, c.ends-u.ensures.1) at c.relax.ensures in
-    record {
-      kept = accept_sound d e c.requires.sound c.args.row c.requires.fair refl items c.requires.point relaxed room c.push_reserved.ensures.capacity;
-      after = accept_meaning d e c.requires.sound c.args.row c.requires.fair refl items;
-    }
+    rw c.push_reserved.ensures.items (table_accepts _ _ d.differences d.table c.args.row c.requires.fair _ c.requires.point relaxed)
+
+pub invariant_of-self-clause-differences : goal.invariant_of-self-clause-differences
+invariant_of-self-clause-differences c =
+    rw c.push_reserved.ensures.items (All-push (Difference 64 4000000) _ c.args.row c.args.self.now.differences (fair_difference c.args.row c.requires.fair))
+
+pub invariant_of-self-clause-stack : goal.invariant_of-self-clause-stack
+invariant_of-self-clause-stack c =
+    rw c.push_reserved.ensures.items (stack_row 0 _ _ c.args.row c.args.self.now.stack)

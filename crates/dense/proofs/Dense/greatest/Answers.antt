@@ -1,5 +1,3 @@
-use Rattle.std.proofs.Common.{vec_items}
-use Rattle.dense.specs.Entries.{entry}
 use Rattle.differences.proofs.Tables.{table_greatest}
 use Rattle.differences.proofs.Sides.{ends_of}
 use Rattle.dense.proofs.Dense.greatest.Goals as goal
@@ -8,4 +6,4 @@ pub returns : goal.returns
 returns c =
     let d = c.args.self.now in
     simp (c.at.ensures, c.ends-u.ensures.0, c.ends-u.ensures.1)
-    (table_greatest 64 4000000 (vec_items d.rows) (entry d.matrix) c.requires.sound.differences c.requires.sound.table c.args.side (ends_of c.args.side c.requires.fair))
+    (table_greatest 64 4000000 _ _ d.differences d.table c.args.side (ends_of c.args.side c.requires.fair))

@@ -1,15 +1,10 @@
-use Rattle.std.proofs.Common.{refl, arith}
+use Rattle.std.proofs.Common.{refl}
 use Rattle.std.proofs.lemmas.Result.{err_from_is_err_and}
-use Rattle.std.proofs.lemmas.Bool.{lt-leb}
-use Rattle.theory.proofs.Faults.{first_refuses, last_refuses}
+use Rattle.theory.proofs.Faults.{fault_of_err}
 use Rattle.dense.proofs.DenseTheory.put.Goals as goal
 
-pub returns-in_err-check_row : goal.returns-in_err-check_row
-returns-in_err-check_row c =
+pub returns-in_err-check_put : goal.returns-in_err-check_put
+returns-in_err-check_put c =
     let p = err_from_is_err_and c.from_residual.result c.from_residual.ensures.1 in
-    rw (p.1, p.2) record { kept = c.requires; answers = (first_refuses _ _ _ _ _ c.in_err-check_row.ensures, refl) }
-
-pub returns-in_err-check_point : goal.returns-in_err-check_point
-returns-in_err-check_point c =
-    let p = err_from_is_err_and c.from_residual-in_err-check_point.result c.from_residual-in_err-check_point.ensures.1 in
-    rw (p.1, p.2) record { kept = c.requires; answers = (last_refuses _ _ _ _ _ c.in_ok-check_row.ensures (lt-leb 1024 _ (omega (arith, c.if-row_count.false, c.row_count.ensures))) c.in_err-check_point.ensures, refl) }
+    let first = rw c.row_count.ensures at (fault_of_err _ _ c.in_err-check_put.ensures) in
+    rw (p.1, p.2, first) (refl, refl)

@@ -4,4 +4,4 @@ use Rattle.dense.proofs.Lines.{Done}
 use Rattle.dense.proofs.matrix.Matrix.new.Given as goal
 
 abbrev pub invariant-loop-i : goal.invariant-loop-i
-invariant-loop-i l = Done [] (λ i line. LineHolds line (no_bounds i)) l.initial.lines l.i l.lines
+invariant-loop-i l = Done [] (λ i line. LineHolds line (no_bounds i)) l.initial.line-items l.i l.line-items

@@ -2,5 +2,5 @@ use Rattle.std.proofs.Common.{rules}
 use Rattle.dense.proofs.Lines.{done_more}
 use Rattle.dense.proofs.matrix.Matrix.relax.Goals as goal
 
-pub loop-i-preserved : goal.loop-i-preserved
-loop-i-preserved c = done_more (search rules) c.loop-i.invariant _ (search rules)
+pub loop-line-preserved : goal.loop-line-preserved
+loop-line-preserved c = done_more (search rules) c.loop-line.invariant _ (search rules)
