@@ -4,6 +4,7 @@ use Rattle.std.proofs.Common.{sym, arith}
 use Rattle.std.proofs.lemmas.List.{length-map}
 use Rattle.theory.specs.Meaning.{Meaning, Sane}
 use Rattle.sums.specs.Terms.{sent}
+use Rattle.sums.proofs.Above.{point_above}
 use Rattle.doubled.specs.State.{Over}
 
 -- as many levels are open here as below
@@ -17,5 +18,5 @@ over_sane m b o s =
       limits = rw z (record { unknowns = omega (arith, s.limits.unknowns); space = omega (arith, s.limits.space); depth = s.limits.depth; reach = omega (arith, s.limits.reach) });
       rows_fit = o.rows_fit;
       levels_fit = rw z (omega (arith, s.levels_fit, over_long m b o));
-      point = o.point;
+      point = point_above b.sizes m.rows (rw z at o.fair) (rw o.rows at s.point) o.point;
     }

@@ -19,43 +19,33 @@ ghost use Rattle.theory.specs.Calls.{PointChecked};
 ghost use Rattle.theory.specs.Meaning.{with_row};
 ghost use Rattle.theory.specs.Rows.{Feasible};
 ghost use Rattle.theory.specs.Rules.{row_fault};
+ghost use Rattle.standing.specs.Starts.{Started};
 ghost use Rattle.differences.specs.Tabled.{Near};
 ghost use Rattle.sums.specs.Terms.{Within, half_sizes};
-ghost use Rattle.doubled.specs.Asking.{further};
 ghost use Rattle.sums.specs.Greatest.{GreatestOf};
-ghost use Rattle.doubled.specs.State.{own, Sound, Started};
+ghost use Rattle.doubled.specs.Asking.{further};
+ghost use Rattle.doubled.specs.State.{Over, Over-prop};
 ghost use Rattle.doubled.specs.Sanity.{over_sane};
 
-use below::{send, tight};
+use below::Below;
+use standing::Standing;
+use standing::start::Unstarted;
 use std::alloc::{AllocError, Global};
 use sums::Terms;
 use theory::refusal::Refusal;
 use theory::row::{Row, Side};
-use theory::rules::{check_row, check_side};
+use theory::rules::{check_put, check_side};
 use theory::sizes::{Breadth, Sizes};
-use theory::{Start, Theory, check_empty};
+use theory::{Start, Theory};
 
 mod below;
 
-// The levels are those open, oldest first, each by the number of rows that stood here when it opened.
+// The theory below keeps what the standing rows are sent down as, and a level for each that is open here.
 #[derive(Drop)]
-pub struct Doubled<T> {
-    below: T,
-    rows: Vec<Row>,
-    levels: Vec<u32>,
-}
-
-#[derive(Clone, Copy, PartialEq)]
-pub enum Cause {
-    Memory,
-    Refused(Refusal),
-}
-
-// No doubled theory was started: the theory as it was handed over, and why.
-#[derive(Drop)]
-pub struct Unstarted<T> {
-    pub theory: T,
-    pub cause: Cause,
+pub struct Doubled<T: Theory> {
+    below: Below<T>,
+    standing: Standing,
+    ghost over: { Over standing (T.meaning below.theory) } by { Over-prop standing (T.meaning below.theory) },
 }
 
 fn halves(sizes: Sizes) -> Sizes
@@ -72,104 +62,75 @@ fn halves(sizes: Sizes) -> Sizes
 
 impl<T: Theory> Doubled<T> {
     // Starts over an empty theory only; otherwise, and for want of memory, the theory is handed back as it was.
-    pub fn new(heap: Global, below: T) -> Result<Doubled<T>, Unstarted<T>>
-        requires { T.sound below }
-        ensures { Started T.sound T.meaning below result }
+    pub fn new(alloc: Global, below: T) -> Result<Doubled<T>, Unstarted<T>>
+        ensures { Started T.meaning (λ d. d.standing) half_sizes below result }
     {
-        if let Err(refusal) = check_empty(&below) {
-            return Err(Unstarted {
+        match Standing::over(alloc, &below, halves(below.sizes())) {
+            Ok(standing) => Ok(Doubled {
+                below: Below { theory: below },
+                standing,
+            }),
+            Err(cause) => Err(Unstarted {
                 theory: below,
-                cause: Cause::Refused(refusal),
-            });
+                cause,
+            }),
         }
-        let sizes = halves(below.sizes());
-        let Ok(rows) = Vec::with_capacity(heap, sizes.space as usize) else {
-            return Err(Unstarted {
-                theory: below,
-                cause: Cause::Memory,
-            });
-        };
-        let Ok(levels) = Vec::with_capacity(heap, sizes.depth as usize) else {
-            return Err(Unstarted {
-                theory: below,
-                cause: Cause::Memory,
-            });
-        };
-        Ok(Doubled {
-            below,
-            rows,
-            levels,
-        })
     }
 
     // The greatest value of the terms over the points that meet the standing rows.
     fn greatest(&mut self, terms: Terms) -> Option<i64>
-        requires sound { Sound T.sound T.meaning self.old }
-        requires within { Within (own T.meaning self.old).sizes.unknowns terms }
-        ensures kept { Sound T.sound T.meaning self.new }
-        ensures same { own T.meaning self.new ≡ own T.meaning self.old }
-        ensures value { GreatestOf (own T.meaning self.old).rows terms result }
+        requires within { Within self.old.standing.sizes.unknowns terms }
+        ensures same { self.new.standing ≡ self.old.standing }
+        ensures value { GreatestOf self.old.standing.rows terms result }
         ensures near { Near further result }
     {
-        tight(&mut self.below, terms)
+        self.below.tight(terms)
     }
 
     // Rule 7.
     fn check_point(&mut self, row: Row) -> Result<(), Refusal>
-        requires sound { Sound T.sound T.meaning self.old }
-        requires fair { row_fault (own T.meaning self.old).sizes row ≡ None }
-        ensures kept { Sound T.sound T.meaning self.new }
-        ensures same { own T.meaning self.new ≡ own T.meaning self.old }
-        ensures answers { PointChecked (own T.meaning self.old).rows row result }
+        requires fair { row_fault self.old.standing.sizes row ≡ None }
+        ensures same { self.new.standing ≡ self.old.standing }
+        ensures answers { PointChecked self.old.standing.rows row result }
     {
-        let Some(most) = self.greatest(Terms::of(row.side).opposite()) else {
-            return Ok(());
-        };
-        if most + row.c < 0 {
+        let most = self.greatest(Terms::of(row.side).opposite());
+        if most.is_some_and(|most| most + row.c < 0) {
             return Err(Refusal::Contradiction);
         }
         Ok(())
     }
 
     fn accept(&mut self, row: Row)
-        requires sound { Sound T.sound T.meaning self.old }
-        requires fair { row_fault (own T.meaning self.old).sizes row ≡ None }
-        requires room { length (own T.meaning self.old).rows < (own T.meaning self.old).sizes.space }
-        requires point { Feasible ((own T.meaning self.old).rows ++ row ∷ []) }
-        ensures kept { Sound T.sound T.meaning self.new }
-        ensures after { own T.meaning self.new ≡ with_row (own T.meaning self.old) row }
+        requires fair { row_fault self.old.standing.sizes row ≡ None }
+        requires room { length self.old.standing.rows < self.old.standing.sizes.space }
+        requires point { Feasible (self.old.standing.rows ++ row ∷ []) }
+        ensures { self.new.standing ≡ with_row self.old.standing row }
     {
-        send(&mut self.below, Terms::of(row.side), row.c);
-        self.rows.push_reserved(row);
+        self.below.send(Terms::of(row.side), row.c);
+        self.standing.add(row);
     }
 }
 
 impl<T: Theory> Theory for Doubled<T> {
-    ghost meaning = { own T.meaning };
+    ghost meaning = { λ d. d.standing };
 
-    ghost sound = { Sound T.sound T.meaning };
-
-    ghost sane = { λ t s. over_sane _ _ s.over (T.Theory.sane t.below s.kept) };
+    ghost sane = { λ d. over_sane d.standing (T.meaning d.below.theory) d.over (T.Theory.sane d.below.theory) };
 
     fn sizes(&self) -> Sizes {
-        halves(self.below.sizes())
+        self.standing.sizes()
     }
 
     fn row_count(&self) -> u32 {
-        self.rows.len() as u32
+        self.standing.row_count()
     }
 
     fn level_count(&self) -> u32 {
-        self.levels.len() as u32
+        self.standing.level_count()
     }
 
     // At most three questions below, and where the row is accepted one or two puts below.
     fn put(&mut self, row: Row) -> Result<(), Refusal> {
-        let sizes = self.sizes();
-        check_row(sizes, row)?;
-        if self.row_count() >= sizes.space {
-            return Err(Refusal::Space);
-        }
+        check_put(self.sizes(), self.row_count(), row)?;
         self.check_point(row)?;
         self.accept(row);
         Ok(())
@@ -177,19 +138,15 @@ impl<T: Theory> Theory for Doubled<T> {
 
     // A push below.
     fn push(&mut self) -> Result<(), Refusal> {
-        let count = self.row_count();
-        self.below.push()?;
-        self.levels.push_reserved(count);
+        self.below.theory.push()?;
+        self.standing.open_level();
         Ok(())
     }
 
     // A pop below, and a step for each row that goes.
     fn pop(&mut self) -> Result<(), Refusal> {
-        self.below.pop()?;
-        let Some(opened) = self.levels.pop() else {
-            unreachable()
-        };
-        self.rows.truncate(opened as usize);
+        self.below.theory.pop()?;
+        self.standing.close_level();
         Ok(())
     }
 
@@ -201,7 +158,7 @@ impl<T: Theory> Theory for Doubled<T> {
 }
 
 // What starts doubled theories over what `S` starts.
-#[derive(Clone, Copy)]
+#[derive(Clone, Copy, Debug)]
 pub struct OverDoubled<S>(pub S);
 
 impl<S: Start> Start for OverDoubled<S> {
@@ -209,11 +166,9 @@ impl<S: Start> Start for OverDoubled<S> {
 
     ghost starts = { λ s. half_sizes (S.Start.starts s.0) };
 
-    fn start(self, heap: Global) -> Result<Doubled<S::Made>, AllocError> {
-        let below = self.0.start(heap)?;
-        match Doubled::new(heap, below) {
-            Ok(doubled) => Ok(doubled),
-            Err(_) => Err(AllocError),
-        }
+    fn start(self, alloc: Global) -> Result<Doubled<S::Made>, AllocError> {
+        let below = self.0.start(alloc)?;
+        // What was just started is empty, so that only memory can be wanting.
+        Doubled::new(alloc, below).map_err(|_| AllocError)
     }
 }

@@ -17,7 +17,7 @@ use Rattle.differences.specs.Tabled.{Bounds}
 use Rattle.sums.specs.declared.Terms.{Terms}
 use Rattle.sums.specs.declared.Terms.TheVariants.{One, Two}
 use Rattle.sums.specs.Terms.{lit, terms_of, Opposite, value_by, Within, images, sent, half_sizes}
-use Rattle.sums.proofs.Sides.{said_of, opposite_value, opposite_within, images_met, images_turned, images_near, turned}
+use Rattle.sums.proofs.Sides.{Said, said_of, opposite_value, images_met, images_turned, images_near, turned}
 
 pub sent_append : (xs ys : List Row) → sent (xs ++ ys) ≡ sent xs ++ sent ys
 sent_append [] ys = refl
@@ -48,15 +48,18 @@ sent_turned p (r ∷ rows) h =
 abbrev pub Fair : Sizes → Row → Type 0
 Fair z r = row_fault (half_sizes z) r ≡ None
 
-pub fair_side : (z : Sizes) (r : Row) → Fair z r → side_fault (half_sizes z) r.side ≡ None
+fair_side : (z : Sizes) (r : Row) → row_fault z r ≡ None → side_fault z r.side ≡ None
 fair_side z r h = grind arith
 
-pub fair_near : (z : Sizes) (r : Row) → Fair z r → nat_abs r.c ≤ z.reach / 2
+pub fair_near : (z : Sizes) (r : Row) → row_fault z r ≡ None → nat_abs r.c ≤ z.reach
 fair_near z r h = grind arith
+
+pub fair_said : (z : Sizes) (r : Row) → row_fault z r ≡ None → Said z.unknowns r.side
+fair_said z r h = said_of z r.side (fair_side z r h)
 
 module _ (z : Sizes) where
   pub images_fair : (r : Row) → Fair z r → AllByRecursion (Difference z.unknowns z.reach) (images (terms_of r.side) r.c)
-  images_fair r h = images_near (z.unknowns / 2) z.unknowns (omega arith) z.reach (terms_of r.side) r.c (said_of (half_sizes z) r.side (fair_side z r h)).within (omega (arith, fair_near z r h))
+  images_fair r h = images_near (z.unknowns / 2) z.unknowns (omega arith) z.reach (terms_of r.side) r.c (fair_said (half_sizes z) r h).within (omega (arith, fair_near (half_sizes z) r h))
 
   pub sent_fair : (rows : List Row) → AllByRecursion (Fair z) rows → AllByRecursion (Difference z.unknowns z.reach) (sent rows)
   sent_fair [] h = tt
@@ -66,7 +69,7 @@ module _ (z : Sizes) where
   pub sent_met : (p : Point) (rows : List Row) → AllByRecursion (Fair z) rows → AllByRecursion (Meets p) rows → AllByRecursion (Meets (spread p)) (sent rows)
   sent_met p [] fair h = tt
   sent_met p (r ∷ rows) fair h =
-      let said = said_of (half_sizes z) r.side (fair_side z r fair.0) in
+      let said = fair_said (half_sizes z) r fair.0 in
       All-append (Meets (spread p)) (images (terms_of r.side) r.c) (sent rows) (images_met p (terms_of r.side) r.c (rw (said.is p) at h.0)) (sent_met p rows fair.1 h.1)
 
   module _ (D : Differences) (p : Point) (kept : Keeps (z.unknowns / 2) p (tight D)) where
@@ -80,14 +83,10 @@ module _ (z : Sizes) where
     pub sent_meets : (rows : List Row) → AllByRecursion (Fair z) rows → AllByRecursion (Bounds D) (sent rows) → AllByRecursion (Meets p) rows
     sent_meets [] fair has = tt
     sent_meets (r ∷ rows) fair has =
-        let said = said_of (half_sizes z) r.side (fair_side z r fair.0) in
+        let said = fair_said (half_sizes z) r fair.0 in
         let parts = all_parts (Bounds D) (images (terms_of r.side) r.c) (sent rows) has in
         (rw (said.is p) (image_meets (terms_of r.side) r.c said.within parts.0), sent_meets rows fair.1 parts.1)
 
--- the terms of the opposite of a fair row's side
-module _ (z : Sizes) (r : Row) (fair : Fair z r) (ts : Terms) (turned_terms : Opposite (terms_of r.side) ts) where
-  pub opposite_in : Within (half_sizes z).unknowns ts
-  opposite_in = opposite_within (half_sizes z).unknowns (terms_of r.side) ts turned_terms (said_of (half_sizes z) r.side (fair_side z r fair)).within
-
-  pub opposite_is : (p : Point) → value p r.side ≡ neg_ℤ (value_by p ts)
-  opposite_is p = omega (arith, ints, (said_of (half_sizes z) r.side (fair_side z r fair)).is p, opposite_value p (terms_of r.side) ts turned_terms)
+-- the terms of the opposite of the side of a row that passes the rules
+pub opposite_is : (z : Sizes) (r : Row) → row_fault z r ≡ None → (ts : Terms) → Opposite (terms_of r.side) ts → (p : Point) → value p r.side ≡ neg_ℤ (value_by p ts)
+opposite_is z r fair ts turned_terms p = omega (arith, ints, (fair_said z r fair).is p, opposite_value p (terms_of r.side) ts turned_terms)

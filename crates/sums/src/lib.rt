@@ -10,7 +10,7 @@ ghost use Rattle.sums.specs.Terms.{lit, literal_by, terms_of, Opposite, differ};
 use theory::row::{Side, Sign};
 
 // An unknown, or its opposite.
-#[derive(Clone, Copy)]
+#[derive(Clone, Copy, PartialEq, Eq, Debug)]
 pub enum Literal {
     Plus(u32),
     Minus(u32),
@@ -22,7 +22,7 @@ impl Literal {
     {
         match sign {
             Sign::Minus => Literal::Minus(unknown),
-            _ => Literal::Plus(unknown),
+            Sign::Zero | Sign::Plus => Literal::Plus(unknown),
         }
     }
 
@@ -61,7 +61,7 @@ impl Literal {
 }
 
 // s, or s − t.
-#[derive(Clone, Copy)]
+#[derive(Clone, Copy, PartialEq, Eq, Debug)]
 pub enum Terms {
     One(Literal),
     Two(Literal, Literal),

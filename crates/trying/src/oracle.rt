@@ -1,7 +1,5 @@
 // What rows over three unknowns with bounds of −2 to 2 say, by looking at every point of a box. The greatest value of a side,
 // where there is one, is at most the limit, so a greater one found in the box says that there is none.
-ghost use Rattle.std.specs.Prelude.{◌<◌};
-
 use theory::row::{Row, Side, Sign};
 
 pub const UNKNOWNS: u32 = 3;
@@ -9,7 +7,7 @@ pub const UNKNOWNS: u32 = 3;
 // The box has the values from −reach to reach for each unknown.
 #[derive(Clone, Copy)]
 pub struct Oracle {
-    reach: i64,
+    reach: u32,
     limit: i64,
 }
 
@@ -51,10 +49,11 @@ fn meets_all(at: &Point, rows: &[Row]) -> bool {
 impl Oracle {
     // The greatest value of the side over the points of the box that meet all rows, or nothing where none does.
     fn greatest_in_box(&self, rows: &[Row], side: Side) -> Option<i64> {
+        let reach = i64::from(self.reach);
         let mut best: Option<i64> = None;
-        for z in -self.reach..=self.reach {
-            for y in -self.reach..=self.reach {
-                for x in -self.reach..=self.reach {
+        for z in -reach..=reach {
+            for y in -reach..=reach {
+                for x in -reach..=reach {
                     let at = [x, y, z];
                     if meets_all(&at, rows) {
                         best = best.max(Some(value(side, &at)));
