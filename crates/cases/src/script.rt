@@ -1,8 +1,8 @@
 // Lists of calls in few words, and their answers.
 use dense::OverDense;
 use histories::{Answer, Call, Fault, History};
-use sparse::checked::Checked;
 use sparse::memory::{EDGES, HEADS, LEVELS, MARKS, Memory, SAVED};
+use sparse::room::Room;
 use sparse::{Edge, Potentials};
 use std::alloc::Global;
 use theory::row::{Row, Side, Sign};
@@ -21,46 +21,31 @@ pub fn offer(side: Side, c: i64) -> Call {
     Call::Offer(Row { side, c })
 }
 
-// The calls over the dense bottom, compared with a second engine over the sparse one, or the other way round.
-pub fn dense_first(heap: Global, calls: &[Call]) -> Result<History, Fault> {
-    let mut edges = [Edge::blank(); EDGES];
-    let mut levels = [0; LEVELS];
-    let mut saved = [Potentials::zero(); SAVED];
-    let mut heads = [0; HEADS];
-    let mut marks = [0; MARKS];
-    let memory = Memory {
-        edges: &mut edges,
-        levels: &mut levels,
-        saved: &mut saved,
-        heads: &mut heads,
-        marks: &mut marks,
-    };
-    histories::run(heap, OverDense, Checked::new(memory), calls, Call::RowAt(0))
+// What the calls showed over the dense bottom with the sparse one for the second engine, and the other way round.
+#[derive(Drop)]
+pub struct Both {
+    pub dense: History,
+    pub sparse: History,
 }
 
-pub fn sparse_first(heap: Global, calls: &[Call]) -> Result<History, Fault> {
-    let mut edges = [Edge::blank(); EDGES];
-    let mut levels = [0; LEVELS];
-    let mut saved = [Potentials::zero(); SAVED];
-    let mut heads = [0; HEADS];
-    let mut marks = [0; MARKS];
-    let memory = Memory {
-        edges: &mut edges,
-        levels: &mut levels,
-        saved: &mut saved,
-        heads: &mut heads,
-        marks: &mut marks,
-    };
-    histories::run(heap, Checked::new(memory), OverDense, calls, Call::RowAt(0))
-}
+impl Both {
+    pub fn play(alloc: Global, calls: &[Call]) -> Result<Both, Fault> {
+        let mut room = Room::new();
+        let dense = histories::run(alloc, OverDense, room.lend(), calls, Call::RowAt(0))?;
+        let sparse = histories::run(alloc, room.lend(), OverDense, calls, Call::RowAt(0))?;
+        Ok(Both { dense, sparse })
+    }
 
-pub fn answer_at(history: &History, place: usize) -> Option<Answer> {
-    history.answers.get(place).copied()
-}
+    // Both bottoms give this answer at the place.
+    pub fn answer(&self, place: usize, answer: Answer) -> bool {
+        self.dense.answers.get(place) == Some(&answer)
+            && self.sparse.answers.get(place) == Some(&answer)
+    }
 
-// Both bottoms give this answer at the place.
-pub fn both_answer(dense: &History, sparse: &History, place: usize, answer: Answer) -> bool {
-    answer_at(dense, place) == Some(answer) && answer_at(sparse, place) == Some(answer)
+    // The second engines answer the last call as the first ones do.
+    pub fn agree(&self) -> bool {
+        self.dense.first == self.dense.second && self.sparse.first == self.sparse.second
+    }
 }
 
 // Whether slices of these lengths pass the check before a sparse theory starts.
@@ -77,11 +62,11 @@ pub fn memory_is_enough(
     let mut heads = [0; HEADS];
     let mut marks = [0; MARKS];
     let memory = Memory {
-        edges: &mut edges[0..edge_count.min(EDGES)],
-        levels: &mut levels[0..level_count.min(LEVELS)],
-        saved: &mut saved[0..saved_count.min(SAVED)],
-        heads: &mut heads[0..head_count.min(HEADS)],
-        marks: &mut marks[0..mark_count.min(MARKS)],
+        edges: &mut edges[..edge_count.min(EDGES)],
+        levels: &mut levels[..level_count.min(LEVELS)],
+        saved: &mut saved[..saved_count.min(SAVED)],
+        heads: &mut heads[..head_count.min(HEADS)],
+        marks: &mut marks[..mark_count.min(MARKS)],
     };
     memory.check().is_ok()
 }

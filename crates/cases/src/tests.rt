@@ -1,7 +1,9 @@
 use crate::script::*;
 use dense::Dense;
-use engine::{Cause, Engine};
-use histories::{Answer, Call};
+use engine::Engine;
+use histories::{Answer, Call, Reply};
+use standing::Standing;
+use standing::start::Cause;
 use std::alloc::Global;
 use std::process::Abort;
 use std::test::Fail;
@@ -10,17 +12,13 @@ use theory::refusal::Refusal;
 use theory::row::{Row, Sign};
 
 // Each call gets the answer beside it.
-fn check_table(rt: &impl Abort, heap: Global, table: &[(Call, Answer)]) -> Result<(), Fail> {
-    let mut calls = Vec::new(heap);
-    for line in table {
-        calls.push(line.0)?;
-    }
-    let dense = dense_first(heap, calls.as_slice())?;
-    let sparse = sparse_first(heap, calls.as_slice())?;
+fn check_table(rt: &impl Abort, alloc: Global, table: &[(Call, Answer)]) -> Result<(), Fail> {
+    let calls: Vec<Call> = table.iter().map(|line| line.0).collect(alloc)?;
+    let both = Both::play(alloc, calls.as_slice())?;
     for (place, line) in table.iter().enumerate() {
-        assert!(rt; both_answer(&dense, &sparse, place, line.1));
+        assert!(rt; both.answer(place, line.1));
     }
-    assert!(rt; dense.first == dense.second && sparse.first == sparse.second);
+    assert!(rt; both.agree());
     Ok(())
 }
 
@@ -30,20 +28,20 @@ fn chains_of_differences(rt: HostRuntime) -> Result<(), Fail> {
         &rt,
         rt.alloc(),
         &[
-            (Call::Tightest(difference(0, 2)), Answer::Value(None)),
-            (offer(difference(0, 1), 3), Answer::Done),
-            (offer(difference(1, 2), -5), Answer::Done),
-            (Call::Tightest(difference(0, 2)), Answer::Value(Some(-2))),
+            (Call::Tightest(difference(0, 2)), Ok(Reply::Value(None))),
+            (offer(difference(0, 1), 3), Ok(Reply::Done)),
+            (offer(difference(1, 2), -5), Ok(Reply::Done)),
+            (Call::Tightest(difference(0, 2)), Ok(Reply::Value(Some(-2)))),
             (
                 offer(difference(2, 0), 1),
-                Answer::Refused(Refusal::Contradiction),
+                Err(Refusal::Contradiction),
             ),
-            (Call::Push, Answer::Done),
-            (offer(difference(2, 0), 2), Answer::Done),
-            (Call::Tightest(difference(2, 0)), Answer::Value(Some(2))),
-            (Call::Pop, Answer::Done),
-            (Call::Tightest(difference(2, 0)), Answer::Value(None)),
-            (Call::RowAt(2), Answer::Refused(Refusal::NoRow)),
+            (Call::Push, Ok(Reply::Done)),
+            (offer(difference(2, 0), 2), Ok(Reply::Done)),
+            (Call::Tightest(difference(2, 0)), Ok(Reply::Value(Some(2)))),
+            (Call::Pop, Ok(Reply::Done)),
+            (Call::Tightest(difference(2, 0)), Ok(Reply::Value(None))),
+            (Call::RowAt(2), Err(Refusal::NoRow)),
         ],
     )
 }
@@ -59,107 +57,99 @@ fn the_first_broken_rule_is_told(rt: HostRuntime) -> Result<(), Fail> {
         &[
             (
                 offer(side(zero, 70, minus, 1), 1),
-                Answer::Refused(Refusal::Signs),
+                Err(Refusal::Signs),
             ),
             (
                 offer(side(plus, 0, zero, 1), 1),
-                Answer::Refused(Refusal::Signs),
+                Err(Refusal::Signs),
             ),
             (
                 Call::Tightest(side(zero, 0, zero, 0)),
-                Answer::Refused(Refusal::Signs),
+                Err(Refusal::Signs),
             ),
             (
                 offer(difference(64, 64), 1),
-                Answer::Refused(Refusal::Unknown),
+                Err(Refusal::Unknown),
             ),
             (
                 offer(difference(63, 64), 1),
-                Answer::Refused(Refusal::Unknown),
+                Err(Refusal::Unknown),
             ),
             (
                 offer(side(plus, 5, plus, 5), 1),
-                Answer::Refused(Refusal::Twice),
+                Err(Refusal::Twice),
             ),
             (
                 offer(side(plus, 5, plus, 6), 5_000_000),
-                Answer::Refused(Refusal::Breadth),
+                Err(Refusal::Breadth),
             ),
             (
                 Call::Tightest(side(plus, 5, zero, 0)),
-                Answer::Refused(Refusal::Breadth),
+                Err(Refusal::Breadth),
             ),
             (
                 offer(difference(0, 1), 4_000_001),
-                Answer::Refused(Refusal::Reach),
+                Err(Refusal::Reach),
             ),
             (
                 offer(difference(0, 1), -4_000_001),
-                Answer::Refused(Refusal::Reach),
+                Err(Refusal::Reach),
             ),
-            (offer(difference(0, 1), -4_000_000), Answer::Done),
+            (offer(difference(0, 1), -4_000_000), Ok(Reply::Done)),
             (
                 offer(difference(1, 0), 3_999_999),
-                Answer::Refused(Refusal::Contradiction),
+                Err(Refusal::Contradiction),
             ),
-            (offer(difference(1, 0), 4_000_000), Answer::Done),
-            (Call::Pop, Answer::Refused(Refusal::NoLevel)),
+            (offer(difference(1, 0), 4_000_000), Ok(Reply::Done)),
+            (Call::Pop, Err(Refusal::NoLevel)),
         ],
     )
 }
 
 #[test]
 fn levels_to_the_full_depth(rt: HostRuntime) -> Result<(), Fail> {
-    let heap = rt.alloc();
-    let mut calls = Vec::new(heap);
-    for _ in 0..129 {
-        calls.push(Call::Push)?;
-    }
-    for _ in 0..129 {
-        calls.push(Call::Pop)?;
-    }
-    let dense = dense_first(heap, calls.as_slice())?;
-    let sparse = sparse_first(heap, calls.as_slice())?;
-    assert!(rt; both_answer(&dense, &sparse, 127, Answer::Done));
-    assert!(rt; both_answer(&dense, &sparse, 128, Answer::Refused(Refusal::Depth)));
-    assert!(rt; both_answer(&dense, &sparse, 256, Answer::Done));
-    assert!(rt; both_answer(&dense, &sparse, 257, Answer::Refused(Refusal::NoLevel)));
+    let alloc = rt.alloc();
+    let mut calls = vec![in alloc; Call::Push; 129]?;
+    calls.resize(258, Call::Pop)?;
+    let both = Both::play(alloc, calls.as_slice())?;
+    assert!(rt; both.answer(127, Ok(Reply::Done)));
+    assert!(rt; both.answer(128, Err(Refusal::Depth)));
+    assert!(rt; both.answer(256, Ok(Reply::Done)));
+    assert!(rt; both.answer(257, Err(Refusal::NoLevel)));
     Ok(())
 }
 
 #[test]
 fn rows_to_the_full_space(rt: HostRuntime) -> Result<(), Fail> {
-    let heap = rt.alloc();
-    let mut calls = Vec::new(heap);
-    calls.push(Call::Push)?;
-    for _ in 0..1025 {
-        calls.push(offer(difference(0, 1), 5))?;
-    }
-    calls.push(offer(difference(0, 1), 4_000_001))?;
-    calls.push(offer(difference(1, 0), -6))?;
-    calls.push(Call::Pop)?;
-    calls.push(offer(difference(1, 0), -6))?;
-    let dense = dense_first(heap, calls.as_slice())?;
-    let sparse = sparse_first(heap, calls.as_slice())?;
-    assert!(rt; both_answer(&dense, &sparse, 1024, Answer::Done));
-    assert!(rt; both_answer(&dense, &sparse, 1025, Answer::Refused(Refusal::Space)));
-    assert!(rt; both_answer(&dense, &sparse, 1026, Answer::Refused(Refusal::Reach)));
-    assert!(rt; both_answer(&dense, &sparse, 1027, Answer::Refused(Refusal::Space)));
-    assert!(rt; both_answer(&dense, &sparse, 1028, Answer::Done));
-    assert!(rt; both_answer(&dense, &sparse, 1029, Answer::Done));
-    assert!(rt; dense.rows == 1 && sparse.rows == 1);
+    let alloc = rt.alloc();
+    let mut calls = vec![in alloc; Call::Push]?;
+    calls.resize(1026, offer(difference(0, 1), 5))?;
+    calls.extend_from_slice(&[
+        offer(difference(0, 1), 4_000_001),
+        offer(difference(1, 0), -6),
+        Call::Pop,
+        offer(difference(1, 0), -6),
+    ])?;
+    let both = Both::play(alloc, calls.as_slice())?;
+    assert!(rt; both.answer(1024, Ok(Reply::Done)));
+    assert!(rt; both.answer(1025, Err(Refusal::Space)));
+    assert!(rt; both.answer(1026, Err(Refusal::Reach)));
+    assert!(rt; both.answer(1027, Err(Refusal::Space)));
+    assert!(rt; both.answer(1028, Ok(Reply::Done)));
+    assert!(rt; both.answer(1029, Ok(Reply::Done)));
+    assert!(rt; both.dense.rows == 1 && both.sparse.rows == 1);
     Ok(())
 }
 
 #[test]
 fn an_engine_starts_over_an_empty_theory_only(rt: HostRuntime) -> Result<(), Fail> {
-    let heap = rt.alloc();
-    let mut theory = Dense::new(heap)?;
+    let alloc = rt.alloc();
+    let mut theory = Dense::new(alloc)?;
     theory.put(Row {
         side: difference(0, 1),
         c: 3,
     })?;
-    match Engine::new(heap, theory) {
+    match Engine::new(alloc, theory) {
         Ok(_) => Err(Fail::new("started")),
         Err(unstarted) => {
             assert!(rt; unstarted.cause == Cause::Refused(Refusal::Unfit));
@@ -169,24 +159,36 @@ fn an_engine_starts_over_an_empty_theory_only(rt: HostRuntime) -> Result<(), Fai
     }
 }
 
+#[test]
+fn what_stands_starts_over_an_empty_theory(rt: HostRuntime) -> Result<(), Fail> {
+    let theory = Dense::new(rt.alloc())?;
+    let standing = Standing::over(rt.alloc(), &theory, theory.sizes())?;
+    assert_eq!(rt; standing.row_count(), 0);
+    assert_eq!(rt; standing.level_count(), 0);
+    assert!(rt; standing.sizes() == theory.sizes());
+    Ok(())
+}
+
 // A thousand levels opened and closed, with rows between: the sparse bottom then answers as a new engine does.
 #[test]
 fn many_levels_leave_nothing_behind(rt: HostRuntime) -> Result<(), Fail> {
-    let heap = rt.alloc();
-    let mut calls = Vec::new(heap);
-    calls.push(offer(difference(0, 1), 3))?;
+    let alloc = rt.alloc();
+    let mut calls = vec![in alloc; offer(difference(0, 1), 3)]?;
     for _ in 0..1000 {
-        calls.push(Call::Push)?;
-        calls.push(offer(difference(1, 2), -4_000_000))?;
-        calls.push(offer(difference(2, 3), -4_000_000))?;
-        calls.push(Call::Pop)?;
+        calls.extend_from_slice(&[
+            Call::Push,
+            offer(difference(1, 2), -4_000_000),
+            offer(difference(2, 3), -4_000_000),
+            Call::Pop,
+        ])?;
     }
-    calls.push(offer(difference(1, 2), -5))?;
-    calls.push(Call::Tightest(difference(0, 2)))?;
-    let dense = dense_first(heap, calls.as_slice())?;
-    let sparse = sparse_first(heap, calls.as_slice())?;
-    assert!(rt; both_answer(&dense, &sparse, 4002, Answer::Value(Some(-2))));
-    assert!(rt; sparse.taken == 2 && sparse.first == sparse.second);
+    calls.extend_from_slice(&[
+        offer(difference(1, 2), -5),
+        Call::Tightest(difference(0, 2)),
+    ])?;
+    let both = Both::play(alloc, calls.as_slice())?;
+    assert!(rt; both.answer(4002, Ok(Reply::Value(Some(-2)))));
+    assert!(rt; both.sparse.taken == 2 && both.sparse.first == both.sparse.second);
     Ok(())
 }
 

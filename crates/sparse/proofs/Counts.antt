@@ -42,3 +42,13 @@ count_less m m' v (suc k) v_in was now other =
     omega (arith, open_tick (m k) (subst (λ i. m i ≡ 2 → ⊥) (sym is) was), settled_tick (m' k) (ap m' is ∙ now)))
     (λ not. omega (arith, ap tick (other k not), count_less m m' v k (omega arith) was now other))
     (cases_eq k v)
+
+-- v is not settled
+pub count_some : (m : ℕ → ℕ) (v k : ℕ) → v < k → (m v ≡ 2 → ⊥) → 0 < unsettled m k
+unfolding unsettled
+count_some m v zero v_in not = absurd (omega arith)
+count_some m v (suc k) v_in not =
+    ⊎_elim
+    (λ is. omega (arith, open_tick (m k) (subst (λ i. m i ≡ 2 → ⊥) (sym is) not)))
+    (λ other. omega (arith, count_some m v k (omega arith) not))
+    (cases_eq k v)

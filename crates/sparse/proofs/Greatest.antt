@@ -1,5 +1,5 @@
 -- The values of a search without a limit are the greatest differences. Assumes nothing.
-use Rattle.std.proofs.Common.{◌≡◌, ℕ, ◌+◌, ◌*◌, ◌<◌, ◌≤◌, cond, eqb, ◌⊎◌, List, length, get_or, ℤ, pos, negsuc, ◌+ℤ◌, ◌-ℤ◌, neg_ℤ, nat_abs, ◌≤ℤ◌, Some, None, ap, ◌∙◌, inl, inr, ⊎_elim, arith}
+use Rattle.std.proofs.Common.{◌≡◌, ℕ, ◌+◌, ◌*◌, ◌<◌, ◌≤◌, cond, eqb, ◌⊎◌, List, length, get_or, ℤ, pos, negsuc, ◌+ℤ◌, ◌-ℤ◌, neg_ℤ, nat_abs, ◌≤ℤ◌, Some, None, Option, SomeIff, sym, ap, ◌∙◌, subst, inl, inr, ⊎_elim, arith}
 use Rattle.std.specs.List.{AllWithin}
 use Rattle.std.proofs.lemmas.Int.{ints}
 use Rattle.std.proofs.lemmas.Bool.{cases_eq, eq-eqb, ne_eqb, cond-true, cond-false}
@@ -9,7 +9,7 @@ use Rattle.theory.specs.Rules.{side_fault}
 use Rattle.sparse.specs.declared.graph.Edge.{Edge}
 use Rattle.differences.specs.Sides.{bottom_sizes, first, second, Fair}
 use Rattle.sparse.specs.Edges.{source, target, Met, Keeps, rows_in}
-use Rattle.sparse.specs.Points.{SmallPoint, Holds}
+use Rattle.sparse.specs.Points.{Holds}
 use Rattle.sparse.specs.Distances.{Found}
 use Rattle.differences.proofs.Sides.{ends_of, fair_near}
 use Rattle.sparse.proofs.Graphs.{fair_ends}
@@ -20,6 +20,10 @@ use Rattle.sparse.proofs.Rows.{keeps_from_all}
 pub near : (z : ℤ) (n : ℕ) → nat_abs z ≤ n → (z ≤ℤ pos n) × (neg_ℤ (pos n) ≤ℤ z)
 near (pos a) n l = (omega (arith, ints), omega (arith, ints))
 near (negsuc a) n l = (omega (arith, ints), omega (arith, ints))
+
+-- the potentials of at most 1024 rows
+abbrev pub SmallPoint : Point → Type 0
+SmallPoint p = (r : ℕ) → r < 64 → nat_abs (p r) ≤ 266240000000
 
 pub small_point : (es : List Edge) (p : Point) → length es ≤ 1024 → Holds es p → SmallPoint p
 small_point es p few h r r_in = small (p r) (h.high r r_in) (h.low r r_in)
@@ -82,16 +86,20 @@ module _ (es : List Edge) (fair : AllWithin (λ e. Fair e.row) es 0 (length es))
         let begun = f.partial.begun in
         omega (arith, ints, far_settled top start (settled start f.partial.inside begun.0), begun.1)
 
-    pub greatest_none : (m (first side) ≡ 2 → ⊥) → Greatest (rows_in es) side None
+    greatest_none : (m (first side) ≡ 2 → ⊥) → Greatest (rows_in es) side None
     greatest_none not = λ top.
         let high = pos (600000000000 + nat_abs top) in
         let t = near top (nat_abs top) (omega arith) in
         let q = near (p (first side)) 266240000000 (small (first side) first_in) in
         (far high, all_from_keeps (far high) es fair (far_keeps high (omega (arith, ints))), omega (arith, ints, side_is (far high), start_is high, far_other high (first side) not))
 
-    pub greatest_some : m (first side) ≡ 2 → Greatest (rows_in es) side (Some (val (first side)))
+    greatest_some : m (first side) ≡ 2 → Greatest (rows_in es) side (Some (val (first side)))
     greatest_some two =
         let high = pos 300000000000 in (
           (λ x meets. omega (arith, ints, side_is x, f.partial.implied x (keeps_from_all x es fair meets) (first side) first_in (omega arith))),
           (far high, all_from_keeps (far high) es fair (far_keeps high (omega (arith, ints))), omega (arith, ints, side_is (far high), start_is high, far_settled high (first side) two)),
         )
+
+    pub greatest_is : (o : Option ℤ) → SomeIff o (m (first side) ≡ 2) (val (first side)) → Greatest (rows_in es) side o
+    greatest_is None not = greatest_none not
+    greatest_is (Some x) h = subst (λ y. Greatest (rows_in es) side (Some y)) (sym h.1) (greatest_some h.0)

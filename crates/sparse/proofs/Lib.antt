@@ -12,4 +12,3 @@ pub mod Greatest
 pub mod Repairs
 pub mod Repairing
 pub mod States
-pub mod Accepts

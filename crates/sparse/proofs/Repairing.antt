@@ -1,8 +1,7 @@
 -- The repair for a new row in the terms of the code, where sums are computed in 64 bits. Assumes nothing.
-use Rattle.std.proofs.Common.{◌≡◌, ℕ, ◌<◌, ◌≤◌, true, false, eqb, List, [], ◌∷◌, ◌++◌, length, ℤ, pos, ◌+ℤ◌, ◌-ℤ◌, neg_ℤ, nat_abs, sym, ap, ◌∙◌, subst, arith, w64, SFits, to_z, of_z}
+use Rattle.std.proofs.Common.{◌≡◌, ℕ, ◌<◌, ◌≤◌, true, List, [], ◌∷◌, ◌++◌, length, ℤ, pos, ◌+ℤ◌, ◌-ℤ◌, neg_ℤ, nat_abs, sym, ap, ◌∙◌, subst, arith, w64, SFits, to_z, of_z}
 use lib.Signed.{le_z}
 use Rattle.std.specs.List.{AllWithin}
-use Rattle.std.proofs.lemmas.Bool.{eqb-true, eqb-false}
 use Rattle.theory.specs.declared.row.Row.{Row}
 use Rattle.theory.specs.Rows.{Point}
 use Rattle.sparse.specs.declared.graph.Edge.{Edge}
@@ -53,12 +52,12 @@ module _ (es : List Edge) (p : Point) (h : Holds es p) (row : Row) (s t : ℕ) (
     found : Found es p t (neg_ℤ (p s +ℤ row.c)) m val
     found = subst (λ l. Found es p t l m val) (opposite_is a row.c k.near k.c_near ∙ ap (λ z. neg_ℤ (z +ℤ row.c)) k.is) f
 
-    pub told_circle : true ≡ eqb (m s) 2 → (e : Edge) (x : Point) → e.row ≡ row → Keeps x es → Met x e → ⊥
+    pub told_circle : m s ≡ 2 → (e : Edge) (x : Point) → e.row ≡ row → Keeps x es → Met x e → ⊥
     told_circle two e x e_is kept met =
-        circle es p h s t row.c k.s_in k.t_in k.c_near (fair_ends es fair) m val found (eqb-true (m s) 2 (sym two)) x kept (met_leads x e s t row.c (row_leads e row s t e_is k.into k.out) met)
+        circle es p h s t row.c k.s_in k.t_in k.c_near (fair_ends es fair) m val found two x kept (met_leads x e s t row.c (row_leads e row s t e_is k.into k.out) met)
 
-    pub told_repaired : false ≡ eqb (m s) 2 → (p' : Point) → ((r : ℕ) → r < 64 → Lowered (computed a row.c) (m r) (val r) (p r) (p' r)) → (e : Edge) → e.row ≡ row → Holds (es ++ e ∷ []) p'
+    pub told_repaired : (m s ≡ 2 → ⊥) → (p' : Point) → ((r : ℕ) → r < 64 → Lowered (computed a row.c) (m r) (val r) (p r) (p' r)) → (e : Edge) → e.row ≡ row → Holds (es ++ e ∷ []) p'
     told_repaired not p' lowered e e_is =
-        holds_repaired es p h s t row.c k.s_in k.t_in k.c_near (fair_ends es fair) m val found (eqb-false (m s) 2 (sym not)) p'
+        holds_repaired es p h s t row.c k.s_in k.t_in k.c_near (fair_ends es fair) m val found not p'
         (λ r r_in. ((λ two. (lowered r r_in).0 two ∙ ap (λ b. b +ℤ val r) base_is), (lowered r r_in).1))
         e (row_leads e row s t e_is k.into k.out)

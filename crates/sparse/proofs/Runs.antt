@@ -1,5 +1,5 @@
 -- A search from its first offer to its end. Assumes nothing.
-use Rattle.std.proofs.Common.{◌≡◌, ℕ, ◌-◌, ◌<◌, ◌⊎◌, List, length, ℤ, pos, nat_abs, ap, ◌∙◌, inl, inr, ⊎_elim, arith}
+use Rattle.std.proofs.Common.{◌≡◌, ℕ, ◌-◌, ◌<◌, ◌≤◌, ◌⊎◌, List, length, ℤ, pos, nat_abs, ap, ◌∙◌, inl, inr, ⊎_elim, arith}
 use Rattle.std.specs.List.{AllWithin}
 use Rattle.std.proofs.lemmas.Int.{ints}
 use Rattle.std.proofs.lemmas.Bool.{cases_eq}
@@ -7,7 +7,7 @@ use Rattle.theory.specs.Rows.{Point}
 use Rattle.sparse.specs.declared.graph.Edge.{Edge}
 use Rattle.sparse.specs.Edges.{source, target, Keeps}
 use Rattle.sparse.specs.Distances.{Partial, Offered, Stepped, Nearest, NoneNearer, Found, SmallValues, unsettled}
-use Rattle.sparse.proofs.Counts.{count_within}
+use Rattle.sparse.proofs.Counts.{count_within, count_some}
 use Rattle.sparse.proofs.Walks.{partial_more}
 
 -- no unknown was reached, and the start is offered the chain of no edges
@@ -47,6 +47,13 @@ module _ {es : List Edge} {p : Point} {start : ℕ} {limit : ℤ} {m : ℕ → �
 
   pub values_small : SmallValues m val
   values_small r r_in some = whole.small r r_in some
+
+  -- a chain to an unknown that is not settled leaves room for one edge more
+  pub nearest_small : (v : ℕ) → Nearest p limit m val v → nat_abs (val v) ≤ 252000000
+  nearest_small v near =
+      let some = count_some m v 64 near.within (λ two. absurd (omega (arith, near.tentative))) in
+      let l = s.small v near.within (omega (arith, near.tentative)) in
+      omega arith
 
   pub run_ended : NoneNearer p limit m val → Found es p start limit m val
   run_ended ended = record { partial = whole; ended = ended }

@@ -7,6 +7,13 @@ use Rattle.std.proofs.lemmas.Int.{ints, to_z-of_z}
 abbrev pub computed : ℤ → ℤ → ℤ
 computed a b = to_z w64 (of_z w64 (to_z w64 (of_z w64 a) +ℤ to_z w64 (of_z w64 b)))
 
+-- a value from base on
+pub lowered_is : (b x : ℤ) → nat_abs b ≤ 266244000000 → nat_abs x ≤ 256000000 → computed b x ≡ to_z w64 (of_z w64 b) +ℤ x
+lowered_is b x b_near x_near =
+    let b_fits : SFits w64 b = search rules in
+    let x_fits : SFits w64 x = search rules in
+    rw (to_z-of_z w64 b b_fits, to_z-of_z w64 x x_fits, to_z-of_z w64 (b +ℤ x) (search rules))
+
 module _ (a b : ℤ) (a_near : nat_abs a ≤ 266240000000) (b_near : nat_abs b ≤ 4000000) where
   pub sum_fits : SFits w64 (to_z w64 (of_z w64 a) +ℤ to_z w64 (of_z w64 b))
   sum_fits = search rules

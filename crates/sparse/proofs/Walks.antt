@@ -1,21 +1,25 @@
 -- The walk over the edges out of the nearest unknown, and its settling. Assumes nothing.
-use Rattle.std.proofs.Common.{◌≡◌, ℕ, ◌+◌, ◌*◌, ◌<◌, ◌≤◌, List, length, get_or, ℤ, ◌+ℤ◌, nat_abs, ◌≤ℤ◌, ◌<ℤ◌, sym, refl, ap, ◌∙◌, subst, ⊎_elim, arith}
+use Rattle.std.proofs.Common.{◌≡◌, ℕ, ◌+◌, ◌-◌, ◌*◌, ◌<◌, ◌≤◌, List, length, get_or, ℤ, ◌+ℤ◌, nat_abs, ◌≤ℤ◌, ◌<ℤ◌, sym, refl, ap, ◌∙◌, subst, ⊎_elim, arith}
 use Rattle.std.specs.List.{AllWithin}
 use Rattle.std.proofs.lemmas.List.{get_or_default}
 use Rattle.std.proofs.lemmas.Bool.{cases_lt, cases_eq}
 use Rattle.theory.specs.Rows.{Point}
 use Rattle.sparse.specs.declared.graph.Edge.{Edge}
-use Rattle.sparse.specs.declared.distances.Distances.{Distances}
 use Rattle.sparse.specs.Edges.{source, target, Met, Keeps, Link}
-use Rattle.sparse.specs.Distances.{key, Relaxed, Partial, Offered, Walk, Walked, Stepped, Held, unsettled}
+use Rattle.sparse.specs.Distances.{key, Relaxed, Partial, Offered, Walk, Walked, Stepped, unsettled}
+use Rattle.sparse.proofs.Graphs.{Stands}
 use Rattle.sparse.proofs.Counts.{count_same, count_less}
 use Rattle.sparse.proofs.Offers.{partial_offered, nearest_offered, relaxed_offered, relaxed_new, same_value, still_settled, was_settled}
 
-pub held_twice : (s t u : Distances) → Held s t → Held t u → Held s u
-held_twice s t u a b = record { named = b.named ∙ a.named; long = b.long ∙ a.long }
-
 pub offered_as : {m m' : ℕ → ℕ} {val val' : ℕ → ℤ} {t t' : ℕ} {x x' : ℤ} → t ≡ t' → x ≡ x' → Offered t x m val m' val' → Offered t' x' m val m' val'
 offered_as {m} {m'} {val} {val'} {t} {t'} {x} {x'} at is o = subst (λ y. Offered t' y m val m' val') is (subst (λ u. Offered u x m val m' val') at o)
+
+-- the walk over the edges out of v has come to the place that k tells
+pub record Underway (es : List Edge) (v k : ℕ) (m m' : ℕ → ℕ) (val val' : ℕ → ℤ) : Type 0 where
+  pub reached : 0 < m' v
+  pub within : k ≤ length es
+  pub last : (d : Edge) → 0 < k → source (get_or es (k - 1) d) ≡ v
+  pub walked : Walked es v k m m' val val'
 
 -- longer chains are allowed
 pub partial_more : {es : List Edge} {p : Point} {start : ℕ} {limit : ℤ} {m : ℕ → ℕ} {val : ℕ → ℤ} (n k : ℕ) → n ≤ k → Partial es p start limit n m val → Partial es p start limit k m val
@@ -73,6 +77,27 @@ module _ (es : List Edge) (ends : AllWithin (λ f. (source f < 64) × (target f 
             (λ two. (still_settled es p start limit n m₁ val₁ w.partial v w.nearest short e out e_in e_near met keeps m₂ val₂ o' r r_in ((w.settled r r_in).1 two)).0),
           );
         }
+
+-- the edge at the place i, to which the walk has come, is offered, and the walk goes on to the edge before it
+module _ (es : List Edge) (ends : AllWithin (λ f. (source f < 64) × (target f < 64)) es 0 (length es)) (v i : ℕ) (e : Edge) (e_is : e ≡ get_or es i e) (at : Stands es i e)
+    (m m₁ m₂ : ℕ → ℕ) (val val₁ val₂ : ℕ → ℤ) (o : Offered (target e) (val v +ℤ e.row.c) m₁ val₁ m₂ val₂) where
+  stays_reached : 0 < m₁ v → 0 < m₂ v
+  stays_reached some =
+      ⊎_elim
+      (λ is. rw is (⊎_elim (λ old. omega (arith, old.0, old.2)) (λ new. omega (arith, new.1)) o.here))
+      (λ other. rw (o.marks v other) some)
+      (cases_eq v (target e))
+
+  pub walk_on : Underway es v (i + 1) m m₁ val val₁ → Underway es v e.next m m₂ val val₂
+  walk_on w =
+      let one : i + 1 - 1 ≡ i = omega arith in
+      let out = ap source e_is ∙ rw one at (w.last e (omega arith)) in
+      record {
+        reached = stays_reached w.reached;
+        within = let next = at.next.within in let inside = at.within in omega arith;
+        last = λ d more. at.next.last d more ∙ out;
+        walked = walk_step es ends v i at.within e e_is out at.near at.next m m₁ m₂ val val₁ val₂ o w.walked;
+      }
 
 -- all edges out of v are offered, and v is settled
 module _ (es : List Edge) (v : ℕ) (m m₁ m₂ : ℕ → ℕ) (val₁ : ℕ → ℤ) (here : m₂ v ≡ 2) (other : (r : ℕ) → (r ≡ v → ⊥) → m₂ r ≡ m₁ r)

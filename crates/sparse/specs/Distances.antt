@@ -1,21 +1,14 @@
 -- How the distances from one unknown are found by the method of Dijkstra, on reduced lengths. Assumes nothing.
--- mark_of, value_of: the mark and the value of an unknown. A mark is 0 where the unknown is not reached, 1 where its value is
+-- m, val: the mark and the value of each unknown. A mark is 0 where the unknown is not reached, 1 where its value is
 -- tentative and 2 where it is settled. A value is the length of a chain of edges from the start, not reduced.
 -- key: the value less the potential. Along an edge it never falls, since the reduced length c − (p(target) − p(source)) is not
 -- negative; so the keys in the order of settling are those of the reduced distances, less the start's potential.
-use Rattle.std.specs.Prelude.{◌≡◌, ℕ, zero, suc, ◌+◌, ◌*◌, ◌<◌, ◌≤◌, cond, ◌⊎◌, List, length, ℤ, pos, ◌+ℤ◌, ◌-ℤ◌, ◌≤ℤ◌, ◌<ℤ◌, Some, MatchOption, ◌==◌, ◌≢◌, slice_index, slice_index_or, unsigned_abs}
+use Rattle.std.specs.Prelude.{◌≡◌, ℕ, zero, suc, ◌+◌, ◌*◌, ◌<◌, ◌≤◌, cond, ◌⊎◌, List, length, ℤ, pos, ◌+ℤ◌, ◌-ℤ◌, ◌≤ℤ◌, ◌<ℤ◌, Some, ◌==◌, ◌≢◌, slice_index, unsigned_abs}
 use Rattle.std.specs.List.{AllWithin}
 use Rattle.theory.specs.Rows.{Point}
 use Rattle.sparse.specs.declared.graph.Edge.{Edge}
 use Rattle.sparse.specs.declared.distances.Best.{Best}
-use Rattle.sparse.specs.declared.distances.Distances.{Distances}
 use Rattle.sparse.specs.Edges.{source, target, Keeps}
-
-abbrev pub mark_of : Distances → ℕ → ℕ
-mark_of s r = slice_index s.marks.now r
-
-abbrev pub value_of : Distances → ℕ → ℤ
-value_of s r = slice_index_or s.values r (pos 0)
 
 -- no unknown is reached
 abbrev pub Clear : List ℕ → Type 0
@@ -77,11 +70,6 @@ pub record Offered (t : ℕ) (x : ℤ) (m : ℕ → ℕ) (val : ℕ → ℤ) (m'
       ((0 < m t) × (val t ≤ℤ x) × (m' t ≡ m t) × (val' t ≡ val t))
       ⊎ (((m t ≡ 0) ⊎ (x <ℤ val t)) × (m' t ≡ 1) × (val' t ≡ x))
 
--- the lent marks are those of the same slice
-pub record Held (s s' : Distances) : Type 0 where
-  pub named : s'.marks.ghost_name ≡ s.marks.ghost_name
-  pub long : length s'.marks.now ≡ length s.marks.now
-
 -- the edges out of v at the place k and after it have been offered, whatever the potentials, the start and the limit
 pub record Walk (es : List Edge) (v k : ℕ) (m : ℕ → ℕ) (m' : ℕ → ℕ) (val' : ℕ → ℤ) (p : Point) (start : ℕ) (limit : ℤ) (n : ℕ) (x : ℤ) : Type 0 where
   pub partial : Partial es p start limit (n + 1) m' val'
@@ -101,11 +89,6 @@ abbrev pub Stepped : List Edge → ℕ → (m m' : ℕ → ℕ) (val val' : ℕ 
 Stepped es v m m' val val' =
     (p : Point) (start : ℕ) (limit : ℤ) (n : ℕ) → Keeps p es → Partial es p start limit n m val → Nearest p limit m val v
     → Partial es p start limit (n + 1) m' val' × (unsettled m 64 ≡ unsettled m' 64 + 1)
-
--- the scan for the nearest has come to k
-pub record Scan (p : Point) (limit : ℤ) (m : ℕ → ℕ) (val : ℕ → ℤ) (k : ℕ) (best : Best) : Type 0 where
-  pub least : (b : ℕ) → b < k → m b ≡ 1 → best.key ≤ℤ key p val b
-  pub has : MatchOption best.unknown (best.key ≡ limit) (λ v. (v < k) × (m v ≡ 1) × (key p val v ≡ best.key) × (best.key <ℤ limit))
 
 -- the potential y of an unknown with the mark m, the value x and the old potential y₀, once the settled ones are lowered to their values from base on
 abbrev pub Lowered : (base : ℤ) (m : ℕ) (x y₀ y : ℤ) → Type 0

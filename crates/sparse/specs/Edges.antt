@@ -1,16 +1,14 @@
 -- Rows as edges, and the chains by which the edges out of an unknown are reached. Assumes nothing.
 -- source, target: the row x(target) − x(source) ≤ c is an edge out of the source to the target, of length c.
 -- Met: a point meets the row of an edge.      Keeps: it meets those of all the edges.
+-- number_of: the number that is stored for a place, which counts from 1, or for none.
 -- Link: the newest edge out of v below hi stands at lo − 1, and lo is 0 where there is none.
 -- Chained: each head links to the newest edge, and each edge to the one before it out of the same unknown.
-use Rattle.std.specs.Prelude.{◌≡◌, ℕ, ◌-◌, ◌<◌, ◌≤◌, List, [], ◌∷◌, ◌++◌, map, length, ◌+ℤ◌, ◌≤ℤ◌, ◌≢◌, slice_index, slice_index_or}
+use Rattle.std.specs.Prelude.{◌≡◌, ℕ, ◌+◌, ◌-◌, ◌<◌, ◌≤◌, List, [], ◌∷◌, ◌++◌, map, length, Option, Some, None, ◌+ℤ◌, ◌≤ℤ◌, ◌≢◌, slice_index, slice_index_or}
 use Rattle.std.specs.List.{AllWithin}
 use Rattle.theory.specs.declared.row.Row.{Row}
 use Rattle.theory.specs.Rows.{Point}
-use Rattle.trail.specs.Trails as trails
-use Rattle.trail.specs.Trails.{items, levels, room, level_room}
 use Rattle.sparse.specs.declared.graph.Edge.{Edge}
-use Rattle.sparse.specs.declared.graph.Graph.{Graph}
 use Rattle.differences.specs.Sides.{first, second, Fair}
 
 abbrev pub source : Edge → ℕ
@@ -25,6 +23,10 @@ Met x e = x (target e) ≤ℤ (x (source e) +ℤ e.row.c)
 abbrev pub Keeps : Point → List Edge → Type 0
 Keeps x es = AllWithin (Met x) es 0 (length es)
 
+abbrev pub number_of : Option ℕ → ℕ
+number_of None = 0
+number_of (Some i) = i + 1
+
 pub record Link (es : List Edge) (v lo hi : ℕ) : Type 0 where
   pub within : lo ≤ hi
   pub none : (k : ℕ) (d : Edge) → lo ≤ k → k < hi → source (slice_index_or es k d) ≢ v
@@ -34,25 +36,12 @@ pub record Chained (es : List Edge) (hs : List ℕ) : Type 0 where
   pub heads : (v : ℕ) → v < 64 → Link es v (slice_index hs v) (length es)
   pub nexts : (i : ℕ) (d : Edge) → i < length es → Link es (source (slice_index_or es i d)) (slice_index_or es i d).next i
 
-abbrev pub edges_of : Graph → List Edge
-edges_of g = items g.edges
-
-abbrev pub levels_of : Graph → List ℕ
-levels_of g = levels g.edges
+-- the rows of all the edges pass a bottom's rules
+abbrev pub AllFair : List Edge → Type 0
+AllFair es = AllWithin (λ e. Fair e.row) es 0 (length es)
 
 abbrev pub rows_in : List Edge → List Row
 rows_in es = map (λ e. e.row) es
-
--- what the methods of a graph need of it and keep
-pub record Linked (g : Graph) : Type 0 where
-  pub trail : trails.Sound g.edges
-  pub room : 1024 ≤ room g.edges
-  pub level_room : 128 ≤ level_room g.edges
-  pub heads_long : 64 ≤ length g.heads.now
-  pub edges_fit : length (edges_of g) ≤ 1024
-  pub levels_fit : length (levels_of g) ≤ 128
-  pub fair : AllWithin (λ e. Fair e.row) (edges_of g) 0 (length (edges_of g))
-  pub chained : Chained (edges_of g) g.heads.now
 
 -- one more edge, of the row r
 pub record Added (es : List Edge) (r : Row) (es' : List Edge) : Type 0 where

@@ -1,6 +1,9 @@
 pub mod Edges
+pub mod Graphs
 pub mod Points
 pub mod Distances
+pub mod Searches
 pub mod Room
+pub mod Saved
 pub mod State
 pub mod Sanity

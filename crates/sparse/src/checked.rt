@@ -1,7 +1,10 @@
 // Memory that has passed its check: what a sparse theory can be started from.
+ghost use Rattle.std.specs.Prelude.{◌≡◌, MatchResult};
+ghost use Rattle.theory.specs.declared.refusal.Refusal.TheVariants.{Unfit};
 ghost use Rattle.sparse.specs.Room.{Enough};
 
 use crate::memory::Memory;
+use theory::refusal::Refusal;
 
 #[derive(Drop)]
 pub struct Checked<'a> {
@@ -14,5 +17,16 @@ impl<'a> Checked<'a> {
         requires { Enough memory }
     {
         Checked { memory }
+    }
+}
+
+impl<'a> TryFrom<Memory<'a>> for Checked<'a> {
+    type Error = Refusal;
+
+    ghost try_from_gives = { λ m r. MatchResult r (λ c. c.memory ≡ m) (λ e. (e ≡ Unfit) × (Enough m → ⊥)) };
+
+    fn try_from(memory: Memory<'a>) -> Result<Checked<'a>, Refusal> {
+        memory.check()?;
+        Ok(Checked { memory })
     }
 }

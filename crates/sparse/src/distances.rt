@@ -2,16 +2,18 @@
 // A value is the length of a chain of edges as it is; an unknown's key is its value less its potential. Unknowns are settled
 // in the order of their keys, as long as those are below the limit; the value of a settled one is its distance.
 // The mark bytes are lent, and cleared at the end.
-ghost use Rattle.std.specs.Prelude.{◌≡◌, ℕ, ◌+◌, ◌<◌, ◌≤◌, length, MatchOption, ◌==◌, unsigned_abs};
-ghost use Rattle.sparse.specs.Points.{point_of, SmallPoint};
-ghost use Rattle.sparse.specs.Edges.{edges_of, Keeps, Linked};
-ghost use Rattle.sparse.specs.Distances.{mark_of, value_of, Clear, Nearest, NoneNearer, Better, SmallValues, Found, Offered, Held, Lowered, Walked, Stepped, key};
+ghost use Rattle.std.specs.Prelude.{◌≡◌, ℕ, ◌<◌, ◌≤◌, length, pos, MatchOption, SomeIff, unsigned_abs, slice_index, slice_index_or};
+ghost use Rattle.sparse.specs.Graphs.{edges_of};
+ghost use Rattle.sparse.specs.Points.{point_of};
+ghost use Rattle.sparse.specs.Distances.{Clear, Nearest, NoneNearer, Better, SmallValues, Found, Offered, Lowered, Walked, Stepped, key};
 
 use crate::graph::Graph;
+use crate::lengths::Lengths;
 use crate::memory::MARKS;
 use crate::potentials::Potentials;
 use differences::ends;
 
+// A mark stays a byte, since the memory of the marks is lent as bytes.
 const UNREACHED: u8 = 0;
 
 const TENTATIVE: u8 = 1;
@@ -21,11 +23,12 @@ const SETTLED: u8 = 2;
 pub struct Distances<'m> {
     pub marks: &'m mut [u8],
     pub values: [i64; 64],
+    ghost long: { 64 ≤ length marks.now },
+    ghost small: { SmallValues (λ r. slice_index marks.now r) (λ r. slice_index_or values r (pos 0)) },
 }
 
 impl Drop for Distances<'_> {
     fn drop(self)
-        requires { 64 ≤ length self.marks.now }
         ensures { Clear self.exit.0.now }
     {
         let Distances { marks, values: _ } = self;
@@ -37,9 +40,7 @@ pub fn clear(marks: &mut [u8])
     requires { 64 ≤ length marks.old }
     ensures { Clear marks.new }
 {
-    for r in 0..MARKS {
-        marks[r] = UNREACHED;
-    }
+    marks[..MARKS].fill(UNREACHED);
 }
 
 // The least key below the limit that a scan has come to, and the unknown that has it; the limit, where there is none.
@@ -50,24 +51,21 @@ struct Best {
 }
 
 impl Distances<'_> {
-    pub fn is_settled(&self, r: usize) -> bool
-        requires { (r < 64) × (64 ≤ length self.now.marks.now) }
-        ensures { result ≡ (mark_of self.now r == 2) }
-    {
-        self.marks[r] == SETTLED
-    }
+    ghost use Rattle.sparse.specs.Searches.{mark_of, value_of};
 
-    pub fn value(&self, r: usize) -> i64
+    // The distance of r, where it is settled.
+    pub fn distance(&self, r: usize) -> Option<i64>
         requires { r < 64 }
-        ensures { result ≡ value_of self.now r }
+        ensures { SomeIff result (mark_of self.now r ≡ 2) (value_of self.now r) }
     {
-        self.values[r]
+        (self.marks[r] == SETTLED).then_some(self.values[r])
     }
 
     // A chain of this length leads to r.
     fn offer(&mut self, r: usize, value: i64)
-        requires { (r < 64) × (64 ≤ length self.old.marks.now) }
-        ensures held { Held self.old self.new }
+        requires within { r < 64 }
+        requires small { unsigned_abs value ≤ 256000000 }
+        ensures same { self.new.marks.ghost_name ≡ self.old.marks.ghost_name }
         ensures offered { Offered r value (mark_of self.old) (value_of self.old) (mark_of self.new) (value_of self.new) }
     {
         if self.marks[r] == UNREACHED || value < self.values[r] {
@@ -77,17 +75,14 @@ impl Distances<'_> {
     }
 
     // The better of the best so far and r.
-    fn better(&self, potentials: &Potentials, best: Best, r: usize) -> Best
-        requires within { r < 64 }
-        requires long { 64 ≤ length self.now.marks.now }
-        requires small { SmallValues (mark_of self.now) (value_of self.now) }
-        requires potentials { SmallPoint (point_of potentials.now) }
-        ensures { Better (key (point_of potentials.now) (value_of self.now)) (mark_of self.now) best r result }
+    fn better(&self, lengths: Lengths, best: Best, r: usize) -> Best
+        requires { r < 64 }
+        ensures { Better (key (point_of lengths.entry.potentials.now) (value_of self.now)) (mark_of self.now) best r result }
     {
         if self.marks[r] != TENTATIVE {
             return best;
         }
-        let key = self.values[r] - potentials.at(r);
+        let key = self.values[r] - lengths.potentials.at(r);
         if key >= best.key {
             return best;
         }
@@ -98,47 +93,44 @@ impl Distances<'_> {
     }
 
     // The tentative unknown with the least key, where that is below the limit.
-    fn nearest(&self, potentials: &Potentials, limit: i64) -> Option<usize>
-        requires long { 64 ≤ length self.now.marks.now }
-        requires small { SmallValues (mark_of self.now) (value_of self.now) }
-        requires potentials { SmallPoint (point_of potentials.now) }
-        ensures { MatchOption result (NoneNearer (point_of potentials.now) limit (mark_of self.now) (value_of self.now)) (Nearest (point_of potentials.now) limit (mark_of self.now) (value_of self.now)) }
+    fn nearest(&self, lengths: Lengths, limit: i64) -> Option<usize>
+        ensures { let p = point_of lengths.entry.potentials.now in
+            let m = mark_of self.now in
+            let val = value_of self.now in
+            MatchOption result (NoneNearer p limit m val) (Nearest p limit m val) }
     {
-        let mut best = Best {
+        let none = Best {
             key: limit,
             unknown: None,
         };
-        for r in 0..MARKS {
-            best = self.better(potentials, best, r);
-        }
+        let best = (0..MARKS).fold(none, |best, r| self.better(lengths, best, r));
         best.unknown
     }
 
     // Offers each edge out of v to its target.
     fn relax(&mut self, graph: &Graph, v: usize)
         requires within { v < 64 }
-        requires long { 64 ≤ length self.old.marks.now }
-        requires small { unsigned_abs (value_of self.old v) ≤ 256000000 }
-        requires linked { Linked graph.now }
-        ensures held { Held self.old self.new }
+        requires reached { 0 < mark_of self.old v }
+        requires small { unsigned_abs (value_of self.old v) ≤ 252000000 }
+        ensures same { self.new.marks.ghost_name ≡ self.old.marks.ghost_name }
+        ensures reached { 0 < mark_of self.new v }
         ensures walked { Walked (edges_of graph.now) v 0 (mark_of self.old) (mark_of self.new) (value_of self.old) (value_of self.new) }
     {
         let value = self.values[v];
         let mut place = graph.head(v);
-        while place > 0 {
-            let edge = graph.edge(place - 1);
+        while let Some(i) = place {
+            let edge = graph.edge(i);
             let (target, _) = ends(edge.row.side);
             self.offer(target, value + edge.row.c);
-            place = edge.next as usize;
+            place = edge.before();
         }
     }
 
     fn settle(&mut self, graph: &Graph, v: usize)
         requires within { v < 64 }
-        requires long { 64 ≤ length self.old.marks.now }
-        requires small { unsigned_abs (value_of self.old v) ≤ 256000000 }
-        requires linked { Linked graph.now }
-        ensures held { Held self.old self.new }
+        requires reached { 0 < mark_of self.old v }
+        requires small { unsigned_abs (value_of self.old v) ≤ 252000000 }
+        ensures same { self.new.marks.ghost_name ≡ self.old.marks.ghost_name }
         ensures stepped { Stepped (edges_of graph.now) v (mark_of self.old) (mark_of self.new) (value_of self.old) (value_of self.new) }
     {
         self.relax(graph, v);
@@ -146,44 +138,27 @@ impl Distances<'_> {
     }
 
     // Settles each unknown whose key is below the limit: 64 steps for it, and one for each edge out of it.
-    pub fn run(&mut self, graph: &Graph, potentials: &Potentials, start: usize, limit: i64)
+    pub fn run(&mut self, lengths: Lengths, start: usize, limit: i64)
         requires within { start < 64 }
-        requires long { 64 ≤ length self.old.marks.now }
         requires clear { Clear self.old.marks.now }
-        requires linked { Linked graph.now }
-        requires potentials { SmallPoint (point_of potentials.now) }
-        requires keeps { Keeps (point_of potentials.now) (edges_of graph.now) }
-        ensures held { Held self.old self.new }
-        ensures found { Found (edges_of graph.now) (point_of potentials.now) start limit (mark_of self.new) (value_of self.new) }
+        ensures same { self.new.marks.ghost_name ≡ self.old.marks.ghost_name }
+        ensures found { Found (edges_of lengths.entry.graph.now) (point_of lengths.entry.potentials.now) start limit (mark_of self.new) (value_of self.new) }
     {
         self.offer(start, 0);
-        while let Some(v) = self.nearest(potentials, limit) {
-            self.settle(graph, v);
+        while let Some(v) = self.nearest(lengths, limit) {
+            self.settle(lengths.graph, v);
         }
     }
 
-    // The potential of r once the settled ones are lowered to their values from base on.
-    fn lowered(&self, r: usize, base: i64, potential: i64) -> i64
-        requires within { r < 64 }
-        requires long { 64 ≤ length self.now.marks.now }
-        requires small { SmallValues (mark_of self.now) (value_of self.now) }
-        requires base { unsigned_abs base ≤ 266244000000 }
-        ensures { Lowered base (mark_of self.now r) (value_of self.now r) potential result }
-    {
-        if self.marks[r] != SETTLED {
-            return potential;
-        }
-        base + self.values[r]
-    }
-
+    // Puts the potentials of the settled unknowns to their values from base on.
     pub fn lower(&self, potentials: &mut Potentials, base: i64)
-        requires long { 64 ≤ length self.now.marks.now }
-        requires small { SmallValues (mark_of self.now) (value_of self.now) }
-        requires base { unsigned_abs base ≤ 266244000000 }
+        requires { unsigned_abs base ≤ 266244000000 }
         ensures { (r : ℕ) → r < 64 → Lowered base (mark_of self.now r) (value_of self.now r) (point_of potentials.old r) (point_of potentials.new r) }
     {
-        for r in 0..MARKS {
-            potentials.values[r] = self.lowered(r, base, potentials.values[r]);
+        for (r, potential) in potentials.values.iter_mut().enumerate() {
+            if let Some(distance) = self.distance(r) {
+                *potential = base + distance;
+            }
         }
     }
 }

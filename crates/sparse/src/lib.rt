@@ -12,51 +12,57 @@
 // The memory is lent, and no call allocates.
 #![tactic(auto)]
 
-ghost use Rattle.std.specs.Prelude.{◌≡◌, ◌<◌, length, None};
-ghost use Rattle.theory.specs.Meaning.{empty, with_level, without_level};
-ghost use Rattle.theory.specs.Rows.{Greatest};
-ghost use Rattle.theory.specs.Rules.{side_fault};
-ghost use Rattle.sparse.specs.Room.{Enough};
+ghost use Rattle.std.specs.Prelude.{◌≡◌, ◌<◌, ◌≤◌, length};
+ghost use Rattle.theory.specs.Meaning.{empty};
 ghost use Rattle.differences.specs.Sides.{bottom_sizes, Fair};
-ghost use Rattle.sparse.specs.State.{meaning_of, Sound, Accepted};
-ghost use Rattle.sparse.specs.Sanity.{sound_sane};
+ghost use Rattle.sparse.specs.Graphs.{edges_of, levels_of};
+ghost use Rattle.sparse.specs.Points.{point_of, Holds, Accepted};
+ghost use Rattle.sparse.specs.Room.{Enough};
+ghost use Rattle.sparse.specs.Saved.{Saved};
 
 use checked::Checked;
 use differences::SIZES;
 pub use graph::Edge;
 use graph::Graph;
+use lengths::Lengths;
 use marks::Marks;
 use memory::Memory;
 pub use potentials::Potentials;
 use std::alloc::{AllocError, Global};
 use theory::refusal::Refusal;
 use theory::row::{Row, Side};
-use theory::rules::{check_row, check_side};
+use theory::rules::{check_pop, check_push, check_put, check_side};
 use theory::sizes::Sizes;
 use theory::{Start, Theory};
-use trail::Trail;
 
 pub mod checked;
 mod distances;
 mod graph;
+mod lengths;
 mod marks;
 pub mod memory;
 mod potentials;
+pub mod room;
 
+// `saved` has the potentials of the time each open level opened.
 #[derive(Drop)]
 pub struct Sparse<'a> {
     graph: Graph<'a>,
     potentials: Potentials,
-    saved: Trail<'a, Potentials>,
+    saved: &'a mut [Potentials],
     marks: Marks<'a>,
+    ghost holds: { Holds (edges_of graph) (point_of potentials) },
+    ghost saved_room: { 128 ≤ length saved.now },
+    ghost saved_each: { Saved (edges_of graph) (levels_of graph) saved.now },
 }
 
 impl<'a> Sparse<'a> {
+    ghost use Rattle.sparse.specs.State.{meaning_of};
+
     // Empty, whatever the slices hold.
     pub fn new(memory: Memory<'a>) -> Sparse<'a>
         requires { Enough memory }
-        ensures kept { Sound result }
-        ensures empty { meaning_of result ≡ empty bottom_sizes }
+        ensures { meaning_of result ≡ empty bottom_sizes }
     {
         let Memory {
             edges,
@@ -68,62 +74,19 @@ impl<'a> Sparse<'a> {
         Sparse {
             graph: Graph::new(edges, levels, heads),
             potentials: Potentials::zero(),
-            saved: Trail::new(saved, &mut []),
+            saved,
             marks: Marks::new(marks),
         }
     }
 }
 
-impl Sparse<'_> {
-    fn greatest(&mut self, side: Side) -> Option<i64>
-        requires sound { Sound self.old }
-        requires fair { side_fault bottom_sizes side ≡ None }
-        ensures kept { Sound self.new }
-        ensures same { meaning_of self.new ≡ meaning_of self.old }
-        ensures greatest { Greatest (meaning_of self.old).rows side result }
-    {
-        self.marks.greatest(&self.graph, &self.potentials, side)
-    }
-
-    fn accept(&mut self, row: Row) -> Result<(), Refusal>
-        requires sound { Sound self.old }
-        requires fair { Fair row }
-        requires room { length (meaning_of self.old).rows < 1024 }
-        ensures kept { Sound self.new }
-        ensures answers { Accepted (meaning_of self.old) row result (meaning_of self.new) }
-    {
-        self.marks.repair(&self.graph, &mut self.potentials, row)?;
-        self.graph.add(row);
-        Ok(())
-    }
-
-    fn open_level(&mut self)
-        requires sound { Sound self.old }
-        requires room { length (meaning_of self.old).levels < 128 }
-        ensures kept { Sound self.new }
-        ensures after { meaning_of self.new ≡ with_level (meaning_of self.old) }
-    {
-        self.saved.add(self.potentials);
-        self.graph.open_level();
-    }
-
-    fn close_level(&mut self)
-        requires sound { Sound self.old }
-        requires opened { 0 < length (meaning_of self.old).levels }
-        ensures kept { Sound self.new }
-        ensures after { meaning_of self.new ≡ without_level (meaning_of self.old) }
-    {
-        self.potentials = self.saved.take_back();
-        self.graph.close_level();
-    }
-}
-
 impl<'a> Theory for Sparse<'a> {
+    ghost use Rattle.sparse.specs.State.{meaning_of};
+    ghost use Rattle.sparse.specs.Sanity.{sane_meaning};
+
     ghost meaning = { meaning_of };
 
-    ghost sound = { Sound };
-
-    ghost sane = { sound_sane };
+    ghost sane = { sane_meaning };
 
     fn sizes(&self) -> Sizes {
         SIZES
@@ -140,36 +103,53 @@ impl<'a> Theory for Sparse<'a> {
     // A few steps where the potentials meet the row. Else 64 steps for each unknown whose potential falls, one for each edge
     // out of it, and 128 more.
     fn put(&mut self, row: Row) -> Result<(), Refusal> {
-        check_row(SIZES, row)?;
-        if self.row_count() >= SIZES.space {
-            return Err(Refusal::Space);
-        }
-        self.accept(row)
+        check_put(SIZES, self.row_count(), row)?;
+        accept(&mut self.graph, &mut self.potentials, &mut self.marks, row)
     }
 
     // One copy of the potentials.
     fn push(&mut self) -> Result<(), Refusal> {
-        if self.level_count() >= SIZES.depth {
-            return Err(Refusal::Depth);
-        }
-        self.open_level();
+        check_push(SIZES, self.level_count())?;
+        self.saved[self.graph.level_count()] = self.potentials;
+        self.graph.open_level();
         Ok(())
     }
 
     // One copy of the potentials, and a step for each row that leaves.
     fn pop(&mut self) -> Result<(), Refusal> {
-        if self.level_count() == 0 {
-            return Err(Refusal::NoLevel);
-        }
-        self.close_level();
+        check_pop(self.level_count())?;
+        self.potentials = self.saved[self.graph.level_count() - 1];
+        self.graph.close_level();
         Ok(())
     }
 
     // 64 steps for each unknown that a chain leads to, one for each edge out of it, and 64 more.
     fn tightest(&mut self, side: Side) -> Result<Option<i64>, Refusal> {
         check_side(SIZES, side)?;
-        Ok(self.greatest(side))
+        let lengths = Lengths {
+            graph: &self.graph,
+            potentials: &self.potentials,
+        };
+        Ok(self.marks.greatest(lengths, side))
     }
+}
+
+// The answer to a row that breaks none of the rules 1 to 6.
+fn accept(
+    graph: &mut Graph,
+    potentials: &mut Potentials,
+    marks: &mut Marks,
+    row: Row,
+) -> Result<(), Refusal>
+    requires holds { Holds (edges_of graph.old) (point_of potentials.old) }
+    requires fair { Fair row }
+    requires room { length (edges_of graph.old) < 1024 }
+    ensures levels { levels_of graph.new ≡ levels_of graph.old }
+    ensures answers { Accepted (edges_of graph.old) row potentials.old result (edges_of graph.new) potentials.new }
+{
+    marks.repair(graph, potentials, row)?;
+    graph.add(row);
+    Ok(())
 }
 
 impl<'a> Start for Checked<'a> {
@@ -177,7 +157,7 @@ impl<'a> Start for Checked<'a> {
 
     ghost starts = { λ _. bottom_sizes };
 
-    fn start(self, _heap: Global) -> Result<Sparse<'a>, AllocError> {
+    fn start(self, _alloc: Global) -> Result<Sparse<'a>, AllocError> {
         let Checked { memory } = self;
         Ok(Sparse::new(memory))
     }

@@ -32,11 +32,14 @@ impl Memory<'_> {
     pub fn check(&self) -> Result<(), Refusal>
         ensures { MatchResult result (λ _. Enough self.now) (λ e. (e ≡ Unfit) × (Enough self.now → ⊥)) }
     {
-        let rows = self.edges.len() >= EDGES && self.heads.len() >= HEADS;
-        let levels = self.levels.len() >= LEVELS && self.saved.len() >= SAVED;
-        if rows && levels && self.marks.len() >= MARKS {
-            return Ok(());
+        let fits = self.edges.len() >= EDGES
+            && self.levels.len() >= LEVELS
+            && self.saved.len() >= SAVED
+            && self.heads.len() >= HEADS
+            && self.marks.len() >= MARKS;
+        if !fits {
+            return Err(Refusal::Unfit);
         }
-        Err(Refusal::Unfit)
+        Ok(())
     }
 }

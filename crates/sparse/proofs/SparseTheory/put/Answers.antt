@@ -1,16 +1,29 @@
-use Rattle.std.proofs.Common.{refl, arith}
+use Rattle.std.proofs.Common.{◌≡◌, None, refl}
 use Rattle.std.proofs.lemmas.Result.{err_from_is_err_and}
-use Rattle.std.proofs.lemmas.Bool.{lt-leb}
-use Rattle.theory.proofs.Faults.{first_refuses, no_fault_of_ok, both_passed}
-use Rattle.sparse.proofs.Accepts.{put_by}
+use Rattle.theory.specs.Calls.{put_fault}
+use Rattle.theory.proofs.Faults.{fault_of_err, no_fault_of_ok, passed_both}
+use Rattle.sparse.specs.Graphs.{edges_of, levels_of}
+use Rattle.sparse.specs.State.{meaning_of}
+use Rattle.sparse.proofs.States.{graph_rising, saved_answered, holds_answered, put_answered}
 use Rattle.sparse.proofs.SparseTheory.put.Goals as goal
 
-pub returns-in_err-check_row : goal.returns-in_err-check_row
-returns-in_err-check_row c =
+pub returns-in_err-check_put : goal.returns-in_err-check_put
+returns-in_err-check_put c =
     let p = err_from_is_err_and c.from_residual.result c.from_residual.ensures.1 in
-    rw (p.1, p.2) record { kept = c.requires; answers = (first_refuses _ _ _ _ _ c.in_err-check_row.ensures, refl) }
+    let fault = fault_of_err _ _ c.in_err-check_put.ensures in
+    rw (p.1, p.2) (rw (← c.row_count.ensures, fault) refl, refl)
+
+pub invariant_of-self-clause-holds : goal.invariant_of-self-clause-holds
+invariant_of-self-clause-holds c = holds_answered _ _ c.args.row c.args.self.now.potentials _ c.accept.result c.args.self.now.holds c.accept.ensures.answers
+
+pub invariant_of-self-clause-saved_each : goal.invariant_of-self-clause-saved_each
+invariant_of-self-clause-saved_each c =
+    let s = c.args.self.now in
+    rw c.accept.ensures.levels (saved_answered (edges_of s.graph) (levels_of s.graph) s.saved.now (graph_rising s.graph) s.saved_each c.args.row s.potentials _ c.accept.result _ c.accept.ensures.answers)
 
 pub returns : goal.returns
 returns c =
-    let passed = both_passed _ _ _ (no_fault_of_ok _ c.in_ok-check_row.ensures) (lt-leb 1024 _ (omega (arith, c.if-row_count.false, c.row_count.ensures))) in
-    record { kept = c.accept.ensures.kept; answers = put_by _ _ c.args.row c.accept.result passed c.accept.ensures.answers }
+    let s = c.args.self.now in
+    let told = no_fault_of_ok _ c.in_ok-check_put.ensures in
+    let passed : put_fault (meaning_of s) c.args.row ≡ None = rw (← c.row_count.ensures) told in
+    put_answered s.graph c.accept.new.graph c.args.row s.potentials c.accept.new.potentials c.accept.result (passed_both _ _ _ passed).0 c.accept.ensures.levels passed c.accept.ensures.answers

@@ -1,9 +1,9 @@
-use Rattle.std.proofs.Common.{◌≢◌, arith, below_more}
-use Rattle.std.proofs.lemmas.List.{get_or-set_same, get_or-set_other}
+use Rattle.std.proofs.Common.{◌≡◌, replicate, drop, ap, ◌∙◌, rules}
+use Rattle.std.proofs.lemmas.List.{length-take-le}
+use Rattle.sparse.proofs.Graphs.{clear_front}
 use Rattle.sparse.proofs.distances.clear.Goals as goal
 
-pub loop-r-preserved : goal.loop-r-preserved
-loop-r-preserved c =
-    below_more _ _
-    (λ k h. let ne : k ≢ c.loop-r.r = omega arith in rw get_or-set_other (c.loop-r.invariant k h))
-    (get_or-set_same _ c.loop-r.r 0 0 (omega arith))
+pub returns : goal.returns
+returns c =
+    let filled : c.fill.new.self ≡ replicate 64 0 = c.fill.ensures.after (search rules) ∙ ap (λ n. replicate n 0) (length-take-le 64 c.args.marks.now c.requires) in
+    clear_front 64 c.fill.new.self (drop 64 c.args.marks.now) filled

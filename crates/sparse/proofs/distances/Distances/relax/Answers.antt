@@ -1,60 +1,35 @@
-use Rattle.std.proofs.Common.{◌≡◌, ◌+◌, ◌-◌, length, sym, refl, ap, ◌∙◌, subst, arith}
-use Rattle.sparse.specs.Edges.{edges_of, source, Link}
-use Rattle.sparse.specs.Distances.{mark_of, value_of, Walked}
-use Rattle.sparse.proofs.Sums.{sum_fits, sum_is}
-use Rattle.sparse.proofs.Graphs.{fair_ends, stands}
-use Rattle.sparse.proofs.Walks.{walk_start, walk_step, held_twice, offered_as}
+use Rattle.std.proofs.Common.{◌<◌, length, ap, ◌∙◌, subst, arith}
+use Rattle.sparse.specs.Edges.{number_of}
+use Rattle.sparse.specs.Graphs.{edges_of}
+use Rattle.sparse.specs.Searches.{mark_of, value_of}
+use Rattle.sparse.specs.Distances.{Walked}
+use Rattle.sparse.proofs.Sums.{sum_is}
+use Rattle.sparse.proofs.Graphs.{stands, fair_ends}
+use Rattle.sparse.proofs.Offers.{size_sum}
+use Rattle.sparse.proofs.Walks.{Underway, walk_on, offered_as}
 use Rattle.sparse.proofs.distances.Distances.relax.Goals as goal
 
-pub loop-place-init : goal.loop-place-init
-loop-place-init c =
-    let es = edges_of c.args.graph.now in
-    let link = subst (λ k. Link es c.args.v k (length es)) (sym c.head-place.ensures) (c.requires.linked.chained.heads c.args.v c.requires.within) in
-    (record { named = refl; long = refl }, link.within, link.last, walk_start es c.args.v _ _ _ link)
-
-pub edge-edge-requires : goal.edge-edge-requires
-edge-edge-requires c = record { linked = c.requires.linked; within = omega (arith, c.loop-place.invariant.1, c.loop-place-test.true) }
-
-pub overflow_add-value : goal.overflow_add-value
-overflow_add-value c =
-    let at = stands c.args.graph.now c.requires.linked _ c.edge-edge.result (omega (arith, c.loop-place.invariant.1, c.loop-place-test.true)) c.edge-edge.ensures in
-    sum_fits (value_of c.args.self.now c.args.v) c.edge-edge.result.row.c (omega (arith, c.requires.small)) at.near
-
-pub offer-requires : goal.offer-requires
-offer-requires c =
-    let at = stands c.args.graph.now c.requires.linked _ c.edge-edge.result (omega (arith, c.loop-place.invariant.1, c.loop-place-test.true)) c.edge-edge.ensures in
-    (omega (arith, at.target_in, c.ends-target.ensures.0), omega (arith, c.requires.long, c.loop-place.invariant.0.long))
-
-pub loop-place-smaller : goal.loop-place-smaller
-loop-place-smaller c =
-    let at = stands c.args.graph.now c.requires.linked _ c.edge-edge.result (omega (arith, c.loop-place.invariant.1, c.loop-place-test.true)) c.edge-edge.ensures in
-    omega (arith, at.next.within, c.loop-place-test.true)
+pub offer-requires-clause-small : goal.offer-requires-clause-small
+offer-requires-clause-small c =
+    let g = c.args.graph.now in
+    let within : c.in-Some.i < length (edges_of g) = omega (arith, c.loop-place.invariant.1.within, ap number_of c.in-Some.is) in
+    let at = stands (edges_of g) g.heads.now g.fair g.chained c.in-Some.i c.edge-edge.result within c.edge-edge.ensures in
+    let value = value_of c.args.self.now c.args.v in
+    rw (sum_is value c.edge-edge.result.row.c (omega (arith, c.requires.small)) at.near) (size_sum value c.edge-edge.result.row.c 252000000 4000000 c.requires.small at.near)
 
 pub loop-place-preserved : goal.loop-place-preserved
 loop-place-preserved c =
-    let es = edges_of c.args.graph.now in
-    let v = c.args.v in
-    let i = c.loop-place.place - 1 in
+    let g = c.args.graph.now in
     let e = c.edge-edge.result in
-    let inv = c.loop-place.invariant in
-    let some = c.loop-place-test.true in
-    let at = stands c.args.graph.now c.requires.linked i e (omega (arith, inv.1)) c.edge-edge.ensures in
-    let out = ap source c.edge-edge.ensures ∙ inv.2 e some in
-    let sum = sum_is (value_of c.args.self.now v) e.row.c (omega (arith, c.requires.small)) at.near in
+    let w = c.loop-place.invariant.1 in
+    let within : c.in-Some.i < length (edges_of g) = omega (arith, w.within, ap number_of c.in-Some.is) in
+    let at = stands (edges_of g) g.heads.now g.fair g.chained c.in-Some.i e within c.edge-edge.ensures in
+    let sum = sum_is (value_of c.args.self.now c.args.v) e.row.c (omega (arith, c.requires.small)) at.near in
     let offered = offered_as c.ends-target.ensures.0 sum c.offer.ensures.offered in
-    let one : c.loop-place.place ≡ i + 1 = omega arith in
-    let at_place = subst (λ k. Walked es v k (mark_of c.args.self.now) (mark_of c.loop-place.self) (value_of c.args.self.now) (value_of c.loop-place.self)) one inv.3 in (
-      held_twice _ _ _ inv.0 c.offer.ensures.held,
-      omega (arith, at.next.within, at.within),
-      (λ d more. at.next.last d more ∙ out),
-      walk_step es (fair_ends es c.requires.linked.fair) v i at.within e c.edge-edge.ensures out at.near at.next _ _ _ _ _ _ offered at_place,
+    let here = subst (λ k. Underway (edges_of g) c.args.v k (mark_of c.args.self.now) (mark_of c.loop-place.self) (value_of c.args.self.now) (value_of c.loop-place.self)) (ap number_of c.in-Some.is) w in (
+      c.offer.ensures.same ∙ c.loop-place.invariant.0,
+      rw c.before-place.ensures (walk_on (edges_of g) (fair_ends (edges_of g) g.fair) c.args.v c.in-Some.i e c.edge-edge.ensures at _ _ _ _ _ _ offered here),
     )
 
-pub returns : goal.returns
-returns c =
-    let inv = c.loop-place.invariant in
-    let none : c.loop-place.place ≡ 0 = omega (arith, c.loop-place-test.false) in
-    record {
-      held = inv.0;
-      walked = subst (λ k. Walked (edges_of c.args.graph.now) c.args.v k (mark_of c.args.self.now) (mark_of c.loop-place.self) (value_of c.args.self.now) (value_of c.loop-place.self)) none inv.3;
-    }
+pub returns-clause-walked : goal.returns-clause-walked
+returns-clause-walked c = subst (λ o. Walked (edges_of c.args.graph.now) c.args.v (number_of o) (mark_of c.args.self.now) (mark_of c.loop-place.self) (value_of c.args.self.now) (value_of c.loop-place.self)) c.in_default.is c.loop-place.invariant.1.walked

@@ -1,19 +1,10 @@
-use Rattle.std.proofs.Common.{◌≢◌, arith, below_more}
-use Rattle.std.proofs.lemmas.List.{get_or-set_same, get_or-set_other}
-use Rattle.sparse.proofs.Graphs.{linked_empty}
+use Rattle.std.proofs.Common.{◌≡◌, ◌++◌, replicate, drop, ap, ◌∙◌, rules}
+use Rattle.std.proofs.lemmas.List.{length-take-le}
+use Rattle.trail.specs.Trails.{items}
+use Rattle.sparse.proofs.Graphs.{chained_empty, clear_front}
 use Rattle.sparse.proofs.graph.Graph.new.Goals as goal
 
-pub loop-v-preserved : goal.loop-v-preserved
-loop-v-preserved c =
-    below_more _ _
-    (λ k h. let ne : k ≢ c.loop-v.v = omega arith in rw get_or-set_other (c.loop-v.invariant k h))
-    (get_or-set_same _ c.loop-v.v 0 0 (omega arith))
-
-pub returns : goal.returns
-returns c = record {
-  linked = linked_empty _ c.new.ensures.sound c.new.ensures.items c.new.ensures.levels
-      (omega (arith, c.requires.edges, c.new.ensures.room)) (omega (arith, c.requires.levels, c.new.ensures.level_room))
-      (omega (arith, c.requires.heads, c.loop-v.auto.heads)) (λ v v_in. c.loop-v.invariant v (omega (arith, c.loop-v-test.false)));
-  edges = c.new.ensures.items;
-  levels = c.new.ensures.levels;
-}
+pub invariant_of-result-clause-chained : goal.invariant_of-result-clause-chained
+invariant_of-result-clause-chained c =
+    let filled : c.fill.new.self ≡ replicate 64 0 = c.fill.ensures.after (search rules) ∙ ap (λ n. replicate n 0) (length-take-le 64 c.args.heads.now c.requires.heads) in
+    chained_empty (items c.new.result) (c.fill.new.self ++ drop 64 c.args.heads.now) c.new.ensures.items (clear_front 64 c.fill.new.self (drop 64 c.args.heads.now) filled)

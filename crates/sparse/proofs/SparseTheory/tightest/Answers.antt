@@ -1,9 +1,0 @@
-use Rattle.std.proofs.Common.{refl}
-use Rattle.std.proofs.lemmas.Result.{err_from_is_err_and}
-use Rattle.theory.proofs.Faults.{fault_of_err}
-use Rattle.sparse.proofs.SparseTheory.tightest.Goals as goal
-
-pub returns-in_err-check_side : goal.returns-in_err-check_side
-returns-in_err-check_side c =
-    let p = err_from_is_err_and c.from_residual.result c.from_residual.ensures.1 in
-    rw (p.1, p.2) record { kept = c.requires; answers = (fault_of_err _ _ c.in_err-check_side.ensures, refl) }
