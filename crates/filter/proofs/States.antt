@@ -4,6 +4,7 @@ use Rattle.std.proofs.Common.{sym, ap, subst, ◌∙◌, inl, inr, arith}
 use Rattle.std.specs.List.{AllByRecursion}
 use Rattle.std.proofs.lemmas.List.{length_push, length-take-le, take_all, take_more}
 use Rattle.std.proofs.ByRecursion.{All-push}
+use Rattle.std.proofs.lemmas.Bool.{lt-leb}
 use Rattle.std.proofs.lemmas.Int.{ints}
 use Rattle.theory.specs.declared.refusal.Refusal.{Refusal}
 use Rattle.theory.specs.declared.row.Row.{Row}
@@ -11,6 +12,7 @@ use Rattle.theory.specs.declared.row.Side.{Side}
 use Rattle.theory.specs.Rows.{Point, Meets, Greatest}
 use Rattle.theory.specs.Meaning.{Meaning, Sane, newest, with_row, with_level, without_level}
 use Rattle.theory.specs.Calls.{put_fault, Put, Tightest}
+use Rattle.theory.proofs.Faults.{passed_both, both_passed}
 use Rattle.filter.specs.Filters.{Stack, Over, Passed}
 use Rattle.filter.specs.Sanity.{over_long}
 use Rattle.filter.proofs.Rows.{filtered_greatest, filtered_put, filtered_held}
@@ -63,6 +65,12 @@ over_pop m b o some =
 -- a put that breaks none of the rules 1 to 6 finds room
 pub put_room : (m : Meaning) (r : Row) → put_fault m r ≡ None → length m.rows < m.sizes.space
 put_room m r h = grind arith
+
+-- and so does the theory below, which has no more rows
+pub fault_below : (m b : Meaning) → Over m b → (r : Row) → put_fault m r ≡ None → put_fault b r ≡ None
+fault_below m b over r h =
+    let room : length b.rows < b.sizes.space = omega (arith, put_room m r h, over.same.fewer, ap (λ z. z.space) over.sizes) in
+    both_passed _ _ _ (rw over.sizes at (passed_both _ _ _ h).0) (lt-leb _ _ room)
 
 -- a put below that breaks none of the rules 1 to 6 passes the row on
 pub passed_by_put : (m b n : Meaning) (r : Row) (a : Result (Unit {0}) Refusal) → b ≡ m → put_fault m r ≡ None → Put b r a n → Passed m r a n

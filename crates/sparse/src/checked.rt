@@ -15,6 +15,7 @@ pub struct Checked<'a> {
 impl<'a> Checked<'a> {
     pub fn new(memory: Memory<'a>) -> Checked<'a>
         requires { Enough memory }
+        ensures { result.memory ≡ memory.entry }
     {
         Checked { memory }
     }
@@ -25,6 +26,7 @@ impl<'a> TryFrom<Memory<'a>> for Checked<'a> {
 
     ghost try_from_gives = { λ m r. MatchResult r (λ c. c.memory ≡ m) (λ e. (e ≡ Unfit) × (Enough m → ⊥)) };
 
+    // Refused exactly where a slice is shorter than its least length.
     fn try_from(memory: Memory<'a>) -> Result<Checked<'a>, Refusal> {
         memory.check()?;
         Ok(Checked { memory })

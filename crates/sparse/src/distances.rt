@@ -21,8 +21,8 @@ const TENTATIVE: u8 = 1;
 const SETTLED: u8 = 2;
 
 pub struct Distances<'m> {
-    pub marks: &'m mut [u8],
-    pub values: [i64; 64],
+    marks: &'m mut [u8],
+    values: [i64; 64],
     ghost long: { 64 ≤ length marks.now },
     ghost small: { SmallValues (λ r. slice_index marks.now r) (λ r. slice_index_or values r (pos 0)) },
 }
@@ -48,6 +48,21 @@ pub fn clear(marks: &mut [u8])
 struct Best {
     key: i64,
     unknown: Option<usize>,
+}
+
+impl<'m> Distances<'m> {
+    // No unknown is reached.
+    pub fn new(marks: &'m mut [u8]) -> Distances<'m>
+        requires long { 64 ≤ length marks.old }
+        requires clear { Clear marks.old }
+        ensures same { result.marks.ghost_name ≡ marks.entry.ghost_name }
+        ensures clear { Clear result.marks.now }
+    {
+        Distances {
+            marks,
+            values: [0; 64],
+        }
+    }
 }
 
 impl Distances<'_> {

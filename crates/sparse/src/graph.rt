@@ -35,7 +35,7 @@ impl Edge {
     }
 
     // The place of the edge before this one.
-    pub fn before(self) -> Option<usize>
+    pub(crate) fn before(self) -> Option<usize>
         ensures { number_of result ≡ self.next }
     {
         place(self.next)
@@ -142,7 +142,8 @@ impl Graph<'_> {
     }
 }
 
-// Adds an edge, which becomes the newest out of its source.
+// Adds an edge, which becomes the newest out of its source. Like unlink, it takes the parts, since the chains hold only once
+// both have changed.
 fn link(edges: &mut Trail<Edge>, heads: &mut [u32], row: Row)
     requires fair { Fair row }
     requires long { 64 ≤ length heads.old }

@@ -80,7 +80,7 @@ impl<'a> Sparse<'a> {
     }
 }
 
-impl<'a> Theory for Sparse<'a> {
+impl Theory for Sparse<'_> {
     ghost use Rattle.sparse.specs.State.{meaning_of};
     ghost use Rattle.sparse.specs.Sanity.{sane_meaning};
 
@@ -134,7 +134,8 @@ impl<'a> Theory for Sparse<'a> {
     }
 }
 
-// The answer to a row that breaks none of the rules 1 to 6.
+// The answer to a row that breaks none of the rules 1 to 6. It takes the parts, since between its two steps the potentials
+// hold with an edge that the graph does not have yet.
 fn accept(
     graph: &mut Graph,
     potentials: &mut Potentials,

@@ -42,11 +42,9 @@ impl Marks<'_> {
         ensures { Greatest (rows_in (edges_of lengths.entry.graph.now)) side result }
     {
         let (target, start) = ends(side);
-        let marks = &mut *self.bytes;
-        let mut distances = Distances {
-            marks,
-            values: [0; 64],
-        };
+        // Under a name, since the check does not follow a field that is lent in a call.
+        let bytes = &mut *self.bytes;
+        let mut distances = Distances::new(bytes);
         distances.run(lengths, start, i64::MAX);
         distances.distance(target)
     }
@@ -68,11 +66,9 @@ impl Marks<'_> {
         if potentials.at(target) <= base {
             return Ok(());
         }
-        let marks = &mut *self.bytes;
-        let mut distances = Distances {
-            marks,
-            values: [0; 64],
-        };
+        let bytes = &mut *self.bytes;
+        let mut distances = Distances::new(bytes);
+        // Lent again, as the check asks of a reference that goes into a value of a shorter lifetime.
         let lengths = Lengths {
             graph: &*graph,
             potentials: &*potentials,

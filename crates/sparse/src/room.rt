@@ -14,6 +14,7 @@ pub struct Room {
 }
 
 impl Room {
+    // What the arrays hold does not matter.
     pub fn new() -> Room {
         Room {
             edges: [Edge::blank(); EDGES],
@@ -40,5 +41,11 @@ impl Room {
             heads,
             marks,
         })
+    }
+}
+
+impl Default for Room {
+    fn default() -> Room {
+        Room::new()
     }
 }

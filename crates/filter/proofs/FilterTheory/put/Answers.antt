@@ -2,13 +2,16 @@ use Rattle.std.proofs.Common.{refl}
 use Rattle.std.proofs.lemmas.Result.{err_from_is_err_and}
 use Rattle.theory.proofs.Faults.{check_refuses, point_refuses, no_fault_of_ok}
 use Rattle.filter.proofs.Rows.{filtered_possible, filtered_impossible}
-use Rattle.filter.proofs.States.{over_passed, put_room}
+use Rattle.filter.proofs.States.{fault_below, over_passed, put_room}
 use Rattle.filter.proofs.FilterTheory.put.Goals as goal
 
 pub returns-in_err-check_put : goal.returns-in_err-check_put
 returns-in_err-check_put g c =
     let p = err_from_is_err_and c.from_residual.result c.from_residual.ensures.1 in
     rw (p.1, p.2) (check_refuses _ _ _ (rw (c.sizes.ensures, c.row_count.ensures) at c.in_err-check_put.ensures), refl)
+
+pub pass-requires : goal.pass-requires
+pass-requires g c = fault_below _ _ c.args.self.now.over c.args.row (no_fault_of_ok _ (rw (c.sizes.ensures, c.row_count.ensures) at c.in_ok-check_put.ensures))
 
 pub returns-in_err-pass : goal.returns-in_err-pass
 returns-in_err-pass g c =

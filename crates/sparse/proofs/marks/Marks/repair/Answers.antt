@@ -36,7 +36,7 @@ distance-requires c =
     k.s_in
 
 pub invariant_of-self-clause-clear : goal.invariant_of-self-clause-clear
-invariant_of-self-clause-clear c = λ r r_in. grind (arith, c.drop-distances.ensures r r_in, c.run.ensures.same)
+invariant_of-self-clause-clear c = λ r r_in. grind (arith, c.drop-distances.ensures r r_in, c.new-distances.ensures.same, c.run.ensures.same)
 
 pub returns-then-is_some : goal.returns-then-is_some
 returns-then-is_some c =
@@ -45,7 +45,7 @@ returns-then-is_some c =
     (refl, told_circle _ _ c.requires.holds c.args.row _ _ _ k c.args.graph.now.fair _ _ c.run.ensures.found two, refl)
 
 pub invariant_of-self-2-clause-clear : goal.invariant_of-self-2-clause-clear
-invariant_of-self-2-clause-clear c = λ r r_in. grind (arith, c.drop-distances-2.ensures r r_in, c.run.ensures.same)
+invariant_of-self-2-clause-clear c = λ r r_in. grind (arith, c.drop-distances-2.ensures r r_in, c.new-distances.ensures.same, c.run.ensures.same)
 
 pub returns : goal.returns
 returns c =
