@@ -1,7 +1,7 @@
 -- What a put, a push and a pop make of the edges, the levels, the potentials and those that were saved. Assumes nothing.
-use Rattle.std.proofs.Common.{◌≡◌, ℕ, ◌-◌, ◌<◌, List, [], ◌∷◌, ◌++◌, length, get_or, take, set, None, Ok, Err, Result, sym, refl, ap, ◌∙◌, subst, ⊎_elim, arith}
+use Rattle.std.proofs.Common.{◌≡◌, ℕ, ◌-◌, ◌<◌, List, [], ◌∷◌, ◌++◌, length, get_or, take, None, Ok, Err, Result, sym, refl, ap, ◌∙◌, subst, ⊎_elim, arith}
 use Rattle.std.specs.List.{AllByRecursion}
-use Rattle.std.proofs.lemmas.List.{length_push, length-take-le, map_push, take-append-le, take-take, take_all, get_or-take, get_or_push, get_or_append_left, get_or-set_same, get_or-set_other}
+use Rattle.std.proofs.lemmas.List.{length_push, length-take-le, map_push, take-append-le, take-take, take_all, get_or-take, get_or_push, get_or_append_left}
 use Rattle.std.proofs.lemmas.Bool.{cases_lt}
 use Rattle.theory.specs.declared.refusal.Refusal.{Refusal}
 use Rattle.theory.specs.declared.row.Row.{Row}
@@ -30,23 +30,37 @@ module _ (es : List Edge) (ls : List ℕ) (ps : List Potentials) (rising : Risin
   saved_more r es' added i d i_in = rw (added.is, take-append-le (get_or ls i 0) es (added.edge ∷ []) (rising i i (omega arith) i_in).1) (saved i d i_in)
 
   -- a level opens, and keeps the potentials
-  pub saved_open : (k : ℕ) (p : Potentials) → k ≡ length ls → k < length ps → Holds es (point_of p) → Saved es (ls ++ length es ∷ []) (set ps k p)
-  saved_open k p is k_in holds i d i_in =
+  pub saved_open : (p : Potentials) → length ps ≡ length ls → Holds es (point_of p) → Saved es (ls ++ length es ∷ []) (ps ++ p ∷ [])
+  saved_open p one_each holds i d i_in =
       ⊎_elim
-      (λ old. rw (get_or_append_left ls (length es ∷ []) 0 i old, get_or-set_other ps k i p d (λ same. absurd (omega arith))) (saved i d old))
+      (λ old. rw (get_or_append_left ls (length es ∷ []) 0 i old, get_or_append_left ps (p ∷ []) d i (omega arith)) (saved i d old))
       (λ new.
-      let here : i ≡ k = omega (arith, length_push ls (length es)) in
-      rw (get_or_push ls (length es) 0 i (omega arith), here, get_or-set_same ps k p d k_in, take_all (length es) es (omega arith)) holds)
+      let here : length ls ≡ i = omega (arith, length_push ls (length es)) in
+      rw (get_or_push ls (length es) 0 i here, get_or_push ps p d i (one_each ∙ here), take_all (length es) es (omega arith)) holds)
       (cases_lt i (length ls))
 
-  -- the newest level closes
-  pub saved_close : 0 < length ls → Saved (take (newest ls) es) (take (length ls - 1) ls) ps
-  saved_close some i d i_in =
-      let last = length ls - 1 in
-      let fewer = length-take-le last ls (omega arith) in
-      let within : i < last = omega arith in
-      let older = (rising i last (omega arith) (omega arith)).0 in
-      rw (get_or-take last ls i 0 within, take-take (get_or ls i 0) (newest ls) es older) (saved i d (omega arith))
+  -- the newest level closes, and its potentials are taken back
+  module _ (rest : List Potentials) (p : Potentials) (taken : ps ≡ rest ++ p ∷ []) (one_each : length ps ≡ length ls) (some : 0 < length ls) where
+    count : length rest ≡ length ls - 1
+    count = omega (arith, ap length taken, length_push rest p)
+
+    pub saved_close : Saved (take (newest ls) es) (take (length ls - 1) ls) rest
+    saved_close i d i_in =
+        let last = length ls - 1 in
+        let fewer = length-take-le last ls (omega arith) in
+        let within : i < last = omega arith in
+        let older = (rising i last (omega arith) (omega arith)).0 in
+        let at = ap (λ xs. get_or xs i d) taken ∙ get_or_append_left rest (p ∷ []) d i (omega (arith, count)) in
+        rw (get_or-take last ls i 0 within, take-take (get_or ls i 0) (newest ls) es older) (subst (λ q. Holds (take (get_or ls i 0) es) (point_of q)) at (saved i d (omega arith)))
+
+    pub holds_close : Holds (take (newest ls) es) (point_of p)
+    holds_close =
+        let last = length ls - 1 in
+        let at = ap (λ xs. get_or xs last p) taken ∙ get_or_push rest p p last count in
+        subst (λ q. Holds (take (newest ls) es) (point_of q)) at (saved last p (omega arith))
+
+    pub one_each_close : length rest ≡ length (take (length ls - 1) ls)
+    one_each_close = count ∙ sym (length-take-le (length ls - 1) ls (omega arith))
 
   -- a row is answered
   pub saved_answered : (row : Row) (p p' : Potentials) (r : Result (Unit {0}) Refusal) (es' : List Edge) → Accepted es row p r es' p' → Saved es' ls ps

@@ -12,9 +12,10 @@
 // The memory is lent, and no call allocates.
 #![tactic(auto)]
 
-ghost use Rattle.std.specs.Prelude.{◌≡◌, ◌<◌, ◌≤◌, length};
+ghost use Rattle.std.specs.Prelude.{◌≡◌, ◌-◌, ◌<◌, ◌≤◌, [], ◌∷◌, ◌++◌, length, take};
 ghost use Rattle.theory.specs.Meaning.{empty};
 ghost use Rattle.differences.specs.Sides.{bottom_sizes, Fair};
+ghost use Rattle.trail.specs.Trails.{items, levels, room, newest, Roomy};
 ghost use Rattle.sparse.specs.Graphs.{edges_of, levels_of};
 ghost use Rattle.sparse.specs.Points.{point_of, Holds, Accepted};
 ghost use Rattle.sparse.specs.Room.{Enough};
@@ -34,6 +35,7 @@ use theory::row::{Row, Side};
 use theory::rules::{check_pop, check_push, check_put, check_side};
 use theory::sizes::Sizes;
 use theory::{Start, Theory};
+use trail::Trail;
 
 pub mod checked;
 mod distances;
@@ -44,16 +46,18 @@ pub mod memory;
 mod potentials;
 pub mod room;
 
-// `saved` has the potentials of the time each open level opened.
+// `saved` has the potentials of the time each open level opened, one entry for each.
 #[derive(Drop)]
 pub struct Sparse<'a> {
     graph: Graph<'a>,
     potentials: Potentials,
-    saved: &'a mut [Potentials],
+    saved: Trail<'a, Potentials>,
     marks: Marks<'a>,
     ghost holds: { Holds (edges_of graph) (point_of potentials) },
-    ghost saved_room: { 128 ≤ length saved.now },
-    ghost saved_each: { Saved (edges_of graph) (levels_of graph) saved.now },
+    ghost saved_room: { 128 ≤ room saved },
+    ghost saved_flat: { levels saved ≡ [] },
+    ghost one_each: { length (items saved) ≡ length (levels_of graph) },
+    ghost saved_each: { Saved (edges_of graph) (levels_of graph) (items saved) },
 }
 
 impl<'a> Sparse<'a> {
@@ -74,7 +78,7 @@ impl<'a> Sparse<'a> {
         Sparse {
             graph: Graph::new(edges, levels, heads),
             potentials: Potentials::zero(),
-            saved,
+            saved: Trail::new(saved, &mut []),
             marks: Marks::new(marks),
         }
     }
@@ -110,16 +114,14 @@ impl Theory for Sparse<'_> {
     // One copy of the potentials.
     fn push(&mut self) -> Result<(), Refusal> {
         check_push(SIZES, self.level_count())?;
-        self.saved[self.graph.level_count()] = self.potentials;
-        self.graph.open_level();
+        open_level(&mut self.graph, &mut self.saved, self.potentials);
         Ok(())
     }
 
     // One copy of the potentials, and a step for each row that leaves.
     fn pop(&mut self) -> Result<(), Refusal> {
         check_pop(self.level_count())?;
-        self.potentials = self.saved[self.graph.level_count() - 1];
-        self.graph.close_level();
+        close_level(&mut self.graph, &mut self.saved, &mut self.potentials);
         Ok(())
     }
 
@@ -134,8 +136,8 @@ impl Theory for Sparse<'_> {
     }
 }
 
-// The answer to a row that breaks none of the rules 1 to 6. It takes the parts, since between its two steps the potentials
-// hold with an edge that the graph does not have yet.
+// The answer to a row that breaks none of the rules 1 to 6. Like the next two functions it takes the parts, since what ties
+// them holds only once all have changed: in between, the potentials hold with an edge that the graph does not have yet.
 fn accept(
     graph: &mut Graph,
     potentials: &mut Potentials,
@@ -151,6 +153,34 @@ fn accept(
     marks.repair(graph, potentials, row)?;
     graph.add(row);
     Ok(())
+}
+
+// Opens a level, and saves the potentials of its time.
+fn open_level(graph: &mut Graph, saved: &mut Trail<Potentials>, potentials: Potentials)
+    requires room { length (levels_of graph.old) < 128 }
+    requires saved_room { length (items saved.old) < room saved.old }
+    ensures edges { edges_of graph.new ≡ edges_of graph.old }
+    ensures opened { levels_of graph.new ≡ levels_of graph.old ++ length (edges_of graph.old) ∷ [] }
+    ensures saved { items saved.new ≡ items saved.old ++ potentials ∷ [] }
+    ensures flat { levels saved.new ≡ levels saved.old }
+    ensures roomy { Roomy saved.old saved.new }
+{
+    saved.add(potentials);
+    graph.open_level();
+}
+
+// Closes the newest level, and takes back the potentials of the time it opened.
+fn close_level(graph: &mut Graph, saved: &mut Trail<Potentials>, potentials: &mut Potentials)
+    requires opened { 0 < length (levels_of graph.old) }
+    requires since { newest (levels saved.old) < length (items saved.old) }
+    ensures edges { edges_of graph.new ≡ take (newest (levels_of graph.old)) (edges_of graph.old) }
+    ensures closed { levels_of graph.new ≡ take (length (levels_of graph.old) - 1) (levels_of graph.old) }
+    ensures saved { items saved.old ≡ items saved.new ++ potentials.new ∷ [] }
+    ensures flat { levels saved.new ≡ levels saved.old }
+    ensures roomy { Roomy saved.old saved.new }
+{
+    *potentials = saved.take_back();
+    graph.close_level();
 }
 
 impl<'a> Start for Checked<'a> {

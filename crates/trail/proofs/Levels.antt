@@ -1,8 +1,8 @@
 -- Levels still rise with their age when one more opens. Assumes nothing.
-use Rattle.std.proofs.Common.{ℕ, ◌-◌, ◌<◌, ◌≤◌, List, [], ◌∷◌, ◌++◌, length, take, ⊎_elim, arith}
-use Rattle.std.proofs.lemmas.List.{length_push, length-take-le, get_or_push, get_or_append_left, get_or-take}
+use Rattle.std.proofs.Common.{ℕ, List, [], ◌∷◌, ◌++◌, length, ⊎_elim, arith}
+use Rattle.std.proofs.lemmas.List.{length_push, get_or_push, get_or_append_left}
 use Rattle.std.proofs.lemmas.Bool.{cases_lt}
-use Rattle.trail.specs.Levels.{newest, Rising}
+use Rattle.trail.specs.Levels.{Rising}
 
 pub rising_open : (ls : List ℕ) (n : ℕ) → Rising ls n → Rising (ls ++ n ∷ []) n
 rising_open ls n rising i j older within =

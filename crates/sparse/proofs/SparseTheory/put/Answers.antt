@@ -2,6 +2,7 @@ use Rattle.std.proofs.Common.{◌≡◌, None, refl}
 use Rattle.std.proofs.lemmas.Result.{err_from_is_err_and}
 use Rattle.theory.specs.Calls.{put_fault}
 use Rattle.theory.proofs.Faults.{fault_of_err, no_fault_of_ok, passed_both}
+use Rattle.trail.specs.Trails.{items}
 use Rattle.sparse.specs.Graphs.{edges_of, levels_of}
 use Rattle.sparse.specs.State.{meaning_of}
 use Rattle.sparse.proofs.States.{graph_rising, saved_answered, holds_answered, put_answered}
@@ -19,7 +20,7 @@ invariant_of-self-clause-holds c = holds_answered _ _ c.args.row c.args.self.now
 pub invariant_of-self-clause-saved_each : goal.invariant_of-self-clause-saved_each
 invariant_of-self-clause-saved_each c =
     let s = c.args.self.now in
-    rw c.accept.ensures.levels (saved_answered (edges_of s.graph) (levels_of s.graph) s.saved.now (graph_rising s.graph) s.saved_each c.args.row s.potentials _ c.accept.result _ c.accept.ensures.answers)
+    rw c.accept.ensures.levels (saved_answered (edges_of s.graph) (levels_of s.graph) (items s.saved) (graph_rising s.graph) s.saved_each c.args.row s.potentials _ c.accept.result _ c.accept.ensures.answers)
 
 pub returns : goal.returns
 returns c =
