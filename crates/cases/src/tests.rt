@@ -32,10 +32,7 @@ fn chains_of_differences(rt: HostRuntime) -> Result<(), Fail> {
             (offer(difference(0, 1), 3), Ok(Reply::Done)),
             (offer(difference(1, 2), -5), Ok(Reply::Done)),
             (Call::Tightest(difference(0, 2)), Ok(Reply::Value(Some(-2)))),
-            (
-                offer(difference(2, 0), 1),
-                Err(Refusal::Contradiction),
-            ),
+            (offer(difference(2, 0), 1), Err(Refusal::Contradiction)),
             (Call::Push, Ok(Reply::Done)),
             (offer(difference(2, 0), 2), Ok(Reply::Done)),
             (Call::Tightest(difference(2, 0)), Ok(Reply::Value(Some(2)))),
@@ -55,30 +52,12 @@ fn the_first_broken_rule_is_told(rt: HostRuntime) -> Result<(), Fail> {
         &rt,
         rt.alloc(),
         &[
-            (
-                offer(side(zero, 70, minus, 1), 1),
-                Err(Refusal::Signs),
-            ),
-            (
-                offer(side(plus, 0, zero, 1), 1),
-                Err(Refusal::Signs),
-            ),
-            (
-                Call::Tightest(side(zero, 0, zero, 0)),
-                Err(Refusal::Signs),
-            ),
-            (
-                offer(difference(64, 64), 1),
-                Err(Refusal::Unknown),
-            ),
-            (
-                offer(difference(63, 64), 1),
-                Err(Refusal::Unknown),
-            ),
-            (
-                offer(side(plus, 5, plus, 5), 1),
-                Err(Refusal::Twice),
-            ),
+            (offer(side(zero, 70, minus, 1), 1), Err(Refusal::Signs)),
+            (offer(side(plus, 0, zero, 1), 1), Err(Refusal::Signs)),
+            (Call::Tightest(side(zero, 0, zero, 0)), Err(Refusal::Signs)),
+            (offer(difference(64, 64), 1), Err(Refusal::Unknown)),
+            (offer(difference(63, 64), 1), Err(Refusal::Unknown)),
+            (offer(side(plus, 5, plus, 5), 1), Err(Refusal::Twice)),
             (
                 offer(side(plus, 5, plus, 6), 5_000_000),
                 Err(Refusal::Breadth),
@@ -87,14 +66,8 @@ fn the_first_broken_rule_is_told(rt: HostRuntime) -> Result<(), Fail> {
                 Call::Tightest(side(plus, 5, zero, 0)),
                 Err(Refusal::Breadth),
             ),
-            (
-                offer(difference(0, 1), 4_000_001),
-                Err(Refusal::Reach),
-            ),
-            (
-                offer(difference(0, 1), -4_000_001),
-                Err(Refusal::Reach),
-            ),
+            (offer(difference(0, 1), 4_000_001), Err(Refusal::Reach)),
+            (offer(difference(0, 1), -4_000_001), Err(Refusal::Reach)),
             (offer(difference(0, 1), -4_000_000), Ok(Reply::Done)),
             (
                 offer(difference(1, 0), 3_999_999),

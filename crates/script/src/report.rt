@@ -21,9 +21,18 @@ pub fn print_history(rt: &HostRuntime, script: &Script, history: &History) -> io
     let rows = history.rows;
     let levels = history.levels;
     println!(rt; "standing: {rows} rows, {levels} levels")?;
-    println!(rt; "second engine: took {} of {rows} offers and {levels} pushes", history.taken)?;
-    println!(rt; "last call again, first engine: {}", AnswerText(history.first))?;
-    println!(rt; "last call again, second engine: {}", AnswerText(history.second))
+    println!(rt;
+        "second engine: took {} of {rows} offers and {levels} pushes",
+        history.taken
+    )?;
+    println!(rt;
+        "last call again, first engine: {}",
+        AnswerText(history.first)
+    )?;
+    println!(rt;
+        "last call again, second engine: {}",
+        AnswerText(history.second)
+    )
 }
 
 // A script that names no tower.

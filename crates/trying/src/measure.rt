@@ -56,9 +56,7 @@ impl Load {
 
 // How many of the rows are taken.
 fn put_all<T: Theory>(theory: &mut T, rows: &[Row]) -> usize {
-    rows.iter()
-        .filter(|row| theory.put(**row).is_ok())
-        .count()
+    rows.iter().filter(|row| theory.put(**row).is_ok()).count()
 }
 
 // How many of the sides have a greatest value.

@@ -12,10 +12,7 @@ pub struct Oracle {
 }
 
 // Enough where rows bound differences.
-pub const DIFFERENCES: Oracle = Oracle {
-    reach: 8,
-    limit: 4,
-};
+pub const DIFFERENCES: Oracle = Oracle { reach: 8, limit: 4 };
 
 // Enough where rows bound sums too.
 pub const SUMS: Oracle = Oracle {
@@ -26,10 +23,7 @@ pub const SUMS: Oracle = Oracle {
 type Point = [i64; 3];
 
 fn term(sign: Sign, unknown: u32, at: &Point) -> i64 {
-    let x = at
-        .get(unknown as usize)
-        .copied()
-        .unwrap_or(0);
+    let x = at.get(unknown as usize).copied().unwrap_or(0);
     match sign {
         Sign::Zero => 0,
         Sign::Plus => x,
@@ -42,8 +36,7 @@ fn value(side: Side, at: &Point) -> i64 {
 }
 
 fn meets_all(at: &Point, rows: &[Row]) -> bool {
-    rows.iter()
-        .all(|row| value(row.side, at) <= row.c)
+    rows.iter().all(|row| value(row.side, at) <= row.c)
 }
 
 impl Oracle {

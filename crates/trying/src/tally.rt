@@ -23,6 +23,10 @@ impl Tally {
 
 impl fmt::Display for Tally {
     fn fmt<W: fmt::Write>(&self, f: &mut fmt::Formatter<W>) -> fmt::Result {
-        write!(f, "{} calls, {} refused, {} wrong", self.calls, self.refused, self.wrong)
+        write!(
+            f,
+            "{} calls, {} refused, {} wrong",
+            self.calls, self.refused, self.wrong
+        )
     }
 }
