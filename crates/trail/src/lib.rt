@@ -7,6 +7,7 @@
 ghost use Rattle.std.specs.Prelude.{◌≡◌, ℕ, ◌+◌, ◌-◌, ◌^◌, ◌<◌, ◌≤◌, [], ◌∷◌, ◌++◌, length, take, slice_index_or};
 ghost use Rattle.trail.specs.Levels.{Rising};
 
+// The counts stand beside the slices, since the memory is lent and keeps its length.
 #[derive(Drop)]
 pub struct Trail<'a, E> {
     entries: &'a mut [E],
@@ -55,8 +56,7 @@ impl<'a, E: Copy> Trail<'a, E> {
         requires within { i < length (items self.now) }
         ensures { result ≡ slice_index_or (items self.now) i result }
     {
-        let entries: &[E] = self.entries;
-        entries[i]
+        self.entries[i]
     }
 
     // How many entries there were when the newest level opened.
@@ -64,8 +64,7 @@ impl<'a, E: Copy> Trail<'a, E> {
         requires opened { 0 < length (levels self.now) }
         ensures { result ≡ newest (levels self.now) }
     {
-        let marks: &[u32] = self.marks;
-        marks[self.depth - 1] as usize
+        self.marks[self.depth - 1] as usize
     }
 
     pub fn open_level(&mut self)
@@ -96,10 +95,8 @@ impl<'a, E: Copy> Trail<'a, E> {
         ensures items { items self.old ≡ items self.new ++ result ∷ [] }
         ensures levels { levels self.new ≡ levels self.old }
     {
-        let last = self.len - 1;
-        let newest = self.at(last);
-        self.len = last;
-        newest
+        self.len -= 1;
+        self.entries[self.len]
     }
 
     // Closes the newest level, and says how many entries that came since it opened are taken back.

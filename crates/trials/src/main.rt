@@ -31,14 +31,14 @@ const BOTTOMS: [Tower; 2] = [
 // The same calls over each bottom.
 fn try_bottom(alloc: Global, bottom: Tower) -> Result<Tally, Fault> {
     let mut tally = Tally::default();
-    let mut dice = Dice::new(1);
+    let mut dice = Dice::new(1, oracle::UNKNOWNS);
     for _ in 0..ENGINES {
         let trial = Trial::new(
             alloc,
             Breadth::Differences,
             oracle::DIFFERENCES,
             CALLS,
-            || dice.difference_call(oracle::UNKNOWNS),
+            || dice.difference_call(),
         )?;
         let _ = trial.try_over(alloc, bottom, &mut tally)?;
     }
@@ -52,7 +52,7 @@ fn main(rt: HostRuntime) -> io::Result<()> {
             Err(fault) => println!(rt; "{fault}")?,
         }
     }
-    let load = Load::new(rt.alloc(), 1000, |dice| dice.difference(64))?;
+    let load = Load::new(rt.alloc(), 64, 1000, |dice| dice.difference())?;
     for bottom in &BOTTOMS {
         measure(&rt, *bottom, &load)?;
     }

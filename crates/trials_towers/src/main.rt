@@ -52,11 +52,9 @@ fn lines(alloc: Global, layers: &[Layers]) -> Result<Vec<Line>, AllocError> {
 
 // The same trials for every tower. The answers to the last call, made once more on both engines, count as a call too.
 fn try_towers(alloc: Global, breadth: Breadth, lines: &mut [Line]) -> Result<(), Fault> {
-    let mut dice = Dice::new(1);
+    let mut dice = Dice::new(1, oracle::UNKNOWNS);
     for _ in 0..TRIALS {
-        let trial = Trial::new(alloc, breadth, oracle::SUMS, CALLS, || {
-            dice.call(oracle::UNKNOWNS)
-        })?;
+        let trial = Trial::new(alloc, breadth, oracle::SUMS, CALLS, || { dice.call() })?;
         for line in lines.iter_mut() {
             let history = trial.try_over(alloc, line.tower, &mut line.tally)?;
             line.tally.note(history.first, Some(history.second));
@@ -86,10 +84,10 @@ fn measure_towers(rt: &HostRuntime, layers: &[Layers], load: &Load) -> io::Resul
 fn main(rt: HostRuntime) -> io::Result<()> {
     print_trials(&rt, Breadth::Differences, &NARROW)?;
     print_trials(&rt, Breadth::Sums, &WIDE)?;
-    let differences = Load::new(rt.alloc(), 1000, |dice| dice.signed_difference(64))?;
+    let differences = Load::new(rt.alloc(), 64, 1000, |dice| dice.signed_difference())?;
     measure_towers(&rt, &NARROW, &differences)?;
-    let sums = Load::new(rt.alloc(), 500, |dice| dice.side(32))?;
+    let sums = Load::new(rt.alloc(), 32, 500, |dice| dice.side())?;
     measure_towers(&rt, &WIDE[0..3], &sums)?;
-    let few = Load::new(rt.alloc(), 200, |dice| dice.side(16))?;
+    let few = Load::new(rt.alloc(), 16, 200, |dice| dice.side())?;
     measure_towers(&rt, &WIDE[3..4], &few)
 }

@@ -4,15 +4,22 @@ ghost use Rattle.std.specs.Prelude.{◌<◌};
 use histories::Call;
 use theory::row::{Row, Side, Sign};
 
-// A linear congruential generator.
+// A linear congruential generator, and the number of unknowns that sides are drawn from.
 #[derive(Clone, Copy)]
 pub struct Dice {
     state: u64,
+    unknowns: u32,
+    ghost some: { 0 < unknowns },
 }
 
 impl Dice {
-    pub fn new(seed: u64) -> Dice {
-        Dice { state: seed }
+    pub fn new(seed: u64, unknowns: u32) -> Dice
+        requires { 0 < unknowns }
+    {
+        Dice {
+            state: seed,
+            unknowns,
+        }
     }
 
     // A number below n, which is not 0.
@@ -27,10 +34,8 @@ impl Dice {
         (self.state >> 33) % n
     }
 
-    fn unknown(&mut self, unknowns: u32) -> u32
-        requires { 0 < unknowns }
-    {
-        self.roll(u64::from(unknowns)) as u32
+    fn unknown(&mut self) -> u32 {
+        self.roll(u64::from(self.unknowns)) as u32
     }
 
     fn sign(&mut self) -> Sign {
@@ -42,11 +47,9 @@ impl Dice {
     }
 
     // A difference of two unknowns, now and then of one and itself: the unknowns first, then the sign.
-    pub fn difference(&mut self, unknowns: u32) -> Side
-        requires { 0 < unknowns }
-    {
-        let u = self.unknown(unknowns);
-        let v = self.unknown(unknowns);
+    pub fn difference(&mut self) -> Side {
+        let u = self.unknown();
+        let v = self.unknown();
         let a = self.sign();
         Side {
             a,
@@ -57,12 +60,10 @@ impl Dice {
     }
 
     // The same, the sign first.
-    pub fn signed_difference(&mut self, unknowns: u32) -> Side
-        requires { 0 < unknowns }
-    {
+    pub fn signed_difference(&mut self) -> Side {
         let a = self.sign();
-        let u = self.unknown(unknowns);
-        let v = self.unknown(unknowns);
+        let u = self.unknown();
+        let v = self.unknown();
         Side {
             a,
             b: opposite(a),
@@ -72,11 +73,9 @@ impl Dice {
     }
 
     // A bound, a difference or a sum.
-    pub fn side(&mut self, unknowns: u32) -> Side
-        requires { 0 < unknowns }
-    {
+    pub fn side(&mut self) -> Side {
         let a = self.sign();
-        let u = self.unknown(unknowns);
+        let u = self.unknown();
         if self.roll(4) == 0 {
             return Side {
                 a,
@@ -86,7 +85,7 @@ impl Dice {
             };
         }
         let b = self.sign();
-        let v = self.unknown(unknowns);
+        let v = self.unknown();
         Side { a, b, u, v }
     }
 
@@ -97,31 +96,27 @@ impl Dice {
     }
 
     // Offers and questions mostly, of differences.
-    pub fn difference_call(&mut self, unknowns: u32) -> Call
-        requires { 0 < unknowns }
-    {
+    pub fn difference_call(&mut self) -> Call {
         match self.roll(8) {
             0 => Call::Push,
             1 => Call::Pop,
-            2..=4 => Call::Tightest(self.difference(unknowns)),
+            2..=4 => Call::Tightest(self.difference()),
             _ => {
-                let side = self.difference(unknowns);
+                let side = self.difference();
                 Call::Offer(self.bound(side))
             }
         }
     }
 
     // Offers and questions mostly, of all sides, and rows at their places.
-    pub fn call(&mut self, unknowns: u32) -> Call
-        requires { 0 < unknowns }
-    {
+    pub fn call(&mut self) -> Call {
         match self.roll(9) {
             0 => Call::Push,
             1 => Call::Pop,
             2 => Call::RowAt(self.roll(8) as u32),
-            3..=5 => Call::Tightest(self.side(unknowns)),
+            3..=5 => Call::Tightest(self.side()),
             _ => {
-                let side = self.side(unknowns);
+                let side = self.side();
                 Call::Offer(self.bound(side))
             }
         }

@@ -1,4 +1,6 @@
 // Measures what a put and a tightest question cost over a tower, and writes it to standard error.
+ghost use Rattle.std.specs.Prelude.{◌<◌};
+
 use crate::dice::Dice;
 use std::alloc::{AllocError, Global};
 use std::io;
@@ -31,16 +33,18 @@ impl Load {
     // Rows over the sides that are drawn, met at the hidden values, each with some room to spare.
     pub fn new<D: Fn(&mut Dice) -> Side>(
         alloc: Global,
+        unknowns: u32,
         count: u32,
         draw: D,
     ) -> Result<Load, AllocError>
-        requires { D.IsAlwaysCallable draw }
+        requires some { 0 < unknowns }
+        requires callable { D.IsAlwaysCallable draw }
     {
         let mut load = Load {
             rows: Vec::new(alloc),
             sides: Vec::new(alloc),
         };
-        let mut dice = Dice::new(7);
+        let mut dice = Dice::new(7, unknowns);
         for _ in 0..count {
             let side = draw(&mut dice);
             let room = dice.roll(1000) as i64;
