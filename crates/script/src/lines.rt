@@ -38,21 +38,23 @@ impl Script {
             lines: Vec::new(alloc),
             calls: Vec::new(alloc),
         };
-        let mut first = true;
-        for line in text.lines() {
-            if says_nothing(line) {
-                continue;
-            }
-            match (first, read_line(line)) {
-                (true, Some(Said::Over(tower))) if known(tower) => script.towers = Some(Towers {
-                    first: tower,
-                    second: tower,
-                }),
-                (_, Some(Said::Against(tower))) if known(tower) => script.compare_with(tower)?,
-                (_, Some(Said::Call(call))) => script.call(call)?,
+        let mut lines = text.lines().filter(|line| !says_nothing(line));
+        let Some(first) = lines.next() else {
+            return Ok(script);
+        };
+        match read_line(first) {
+            Some(Said::Over(tower)) if known(tower) => script.towers = Some(Towers {
+                first: tower,
+                second: tower,
+            }),
+            _ => script.lines.push(Line::Unreadable)?,
+        }
+        for line in lines {
+            match read_line(line) {
+                Some(Said::Against(tower)) if known(tower) => script.compare_with(tower)?,
+                Some(Said::Call(call)) => script.call(call)?,
                 _ => script.lines.push(Line::Unreadable)?,
             }
-            first = false;
         }
         Ok(script)
     }
