@@ -61,7 +61,8 @@ fn halves(sizes: Sizes) -> Sizes
 }
 
 impl<T: Theory> Doubled<T> {
-    // Starts over an empty theory only; otherwise, and for want of memory, the theory is handed back as it was.
+    // Starts over an empty theory only; otherwise, and for want of memory, the theory is handed back as it was. A match and
+    // no `?`, since it goes on both ways.
     pub fn new(alloc: Global, below: T) -> Result<Doubled<T>, Unstarted<T>>
         ensures { Started T.meaning (λ d. d.standing) half_sizes below result }
     {

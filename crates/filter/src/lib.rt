@@ -43,7 +43,8 @@ fn pass<T: Theory>(below: &mut T, row: Row) -> Result<(), Refusal>
 }
 
 impl<T: Theory> Filter<T> {
-    // Starts over an empty theory only; otherwise, and for want of memory, the theory is handed back as it was.
+    // Starts over an empty theory only; otherwise, and for want of memory, the theory is handed back as it was. A match and
+    // no `?`, since it goes on both ways.
     pub fn new(alloc: Global, below: T) -> Result<Filter<T>, Unstarted<T>>
         ensures { Started T.meaning (λ f. f.standing) (λ z. z) below result }
     {
@@ -57,6 +58,8 @@ impl<T: Theory> Filter<T> {
     }
 }
 
+// The counts, sizes and levels read as those of the doubled layer. One struct for both would need a trait for what ties it
+// to the theory below, with a law for each step, and be no plainer.
 impl<T: Theory> Theory for Filter<T> {
     ghost meaning = { λ f. f.standing };
 

@@ -18,6 +18,7 @@ pub fn print_history(rt: &HostRuntime, script: &Script, history: &History) -> io
     for line in &script.lines {
         print_line(rt, *line, history)?;
     }
+    // By name, since a format takes a field once only.
     let rows = history.rows;
     let levels = history.levels;
     println!(rt; "standing: {rows} rows, {levels} levels")?;

@@ -43,7 +43,8 @@ pub fn clear(marks: &mut [u8])
     marks[..MARKS].fill(UNREACHED);
 }
 
-// The least key below the limit that a scan has come to, and the unknown that has it; the limit, where there is none.
+// The least key below the limit that a scan has come to, and the unknown that has it; the limit, where there is none, so that
+// a scan compares with one key and asks no further.
 #[derive(Clone, Copy)]
 struct Best {
     key: i64,

@@ -1,6 +1,7 @@
 // The standing rows as edges. The row x(u) − x(v) ≤ c is an edge out of v to u; the edges stand in a trail in the order of
 // the rows, each with the place of the edge before it out of the same unknown, and `heads` has the place of the newest.
-// A stored place counts from 1, and 0 says that there is none. Edges leave in the reverse of the order in which they came,
+// A stored place counts from 1, and 0 says that there is none, since the memory lent for it has numbers; code reads it as an
+// Option. Edges leave in the reverse of the order in which they came,
 // so the chains are put back as they were.
 ghost use Rattle.std.specs.Prelude.{◌≡◌, ℕ, ◌-◌, ◌<◌, ◌≤◌, [], ◌∷◌, ◌++◌, length, take, slice_index_or};
 ghost use Rattle.trail.specs.Trails.{items, levels, room, level_room, newest, Roomy};
