@@ -13,7 +13,7 @@ use crate::memory::MARKS;
 use crate::potentials::Potentials;
 use differences::ends;
 
-// A mark stays a byte, since the memory of the marks is lent as bytes.
+// A mark stays a byte, since the memory of the marks is lent as bytes, and so the values stand in an array of their own.
 const UNREACHED: u8 = 0;
 
 const TENTATIVE: u8 = 1;
@@ -66,6 +66,8 @@ impl<'m> Distances<'m> {
     }
 }
 
+// Each change says that the lent slice is still the same one (`ghost_name`), which the check does not see in a struct. That an
+// unknown is below 64 stays a clause: a type for it would be made and opened again at every index.
 impl Distances<'_> {
     ghost use Rattle.sparse.specs.Searches.{mark_of, value_of};
 

@@ -1,7 +1,7 @@
 // A trail: entries in the order in which they came, and levels that can be closed again, newest first. Closing a level
 // takes back the entries that came since it opened. The memory is lent: two slices that the maker chooses long enough.
 // Contracts speak of a trail by the list of its entries and by the list of its levels, oldest first, each the number of
-// entries when it opened. No call allocates; each takes a fixed number of steps.
+// entries when it opened; each change says that the room stays as it was (`Roomy`). No call allocates; each takes a fixed number of steps.
 #![tactic(auto)]
 
 ghost use Rattle.std.specs.Prelude.{◌≡◌, ℕ, ◌+◌, ◌-◌, ◌^◌, ◌<◌, ◌≤◌, [], ◌∷◌, ◌++◌, length, take, slice_index_or};
