@@ -1,5 +1,5 @@
 -- The lesser and the sum of two bounds, as what they are at most and what keeps them. Assumes nothing.
-use Rattle.std.proofs.Common.{◌⊎◌, ℤ, ◌+ℤ◌, ◌≤ℤ◌, Some, None, Option, inl, inr, arith}
+use Rattle.std.proofs.Common.{◌≡◌, ◌⊎◌, ℤ, pos, ◌+ℤ◌, ◌≤ℤ◌, Some, None, Option, refl, ap, inl, inr, arith}
 use lib.Signed.{≤ℤ_refl}
 use Rattle.std.proofs.lemmas.Int.{ints, clamps, by_lt_z}
 use Rattle.bounds.specs.Tables.{AtMost, Allows, least_of, sum_of}
@@ -52,3 +52,8 @@ pub sum_allows : (a b : Option ℤ) (x y : ℤ) → Allows a x → Allows b y �
 sum_allows None b x y h k = tt
 sum_allows (Some v) None x y h k = tt
 sum_allows (Some v) (Some w) x y h k = omega (arith, ints)
+
+-- the lesser of 0 and a bound that is not below it
+pub zero_stays : (o : Option ℤ) → ((x : ℤ) → AtMost o x → pos 0 ≤ℤ x) → least_of (Some (pos 0)) o ≡ Some (pos 0)
+zero_stays None h = refl
+zero_stays (Some x) h = let up = h x (≤ℤ_refl x) in ap Some (omega (arith, ints, clamps))

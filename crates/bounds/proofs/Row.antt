@@ -1,10 +1,10 @@
 -- One more row in a difference table: the bounds that follow by adding stay complete, and exactly the points that meet the row are left. Assumes nothing.
-use Rattle.std.proofs.Common.{◌≡◌, ℕ, ◌<◌, ◌⊎◌, ℤ, pos, ◌+ℤ◌, ◌-ℤ◌, ◌≤ℤ◌, Some, None, Option, sym, refl, ap, subst, inl, inr, ⊎_elim, arith}
+use Rattle.std.proofs.Common.{◌≡◌, ℕ, ◌<◌, ◌⊎◌, ℤ, pos, ◌+ℤ◌, ◌-ℤ◌, ◌≤ℤ◌, Some, None, Option, sym, refl, subst, inl, inr, ⊎_elim, arith}
 use lib.Signed.{≤ℤ_refl}
-use Rattle.std.proofs.lemmas.Int.{ints, clamps}
+use Rattle.std.proofs.lemmas.Int.{ints}
 use Rattle.bounds.specs.Literals.{Point}
-use Rattle.bounds.specs.Tables.{Differences, AtMost, Allows, least_of, sum_of, Metric, Meets, with_row, Admits}
-use Rattle.bounds.proofs.Bounds.{at_most_more, between, least_left, least_right, least_cases, least_allows, least_allows_left, sum_at_most, sum_parts, sum_allows}
+use Rattle.bounds.specs.Tables.{Differences, AtMost, Allows, sum_of, Metric, Meets, with_row, Admits}
+use Rattle.bounds.proofs.Bounds.{at_most_more, between, least_left, least_right, least_cases, least_allows, least_allows_left, sum_at_most, sum_parts, sum_allows, zero_stays}
 
 -- the bound x on i − j through the row u − v ≤ c
 record Through (D : Differences) (u v : ℕ) (c : ℤ) (i j : ℕ) (x : ℤ) : Type 0 where
@@ -40,10 +40,6 @@ no_turn None c x ok h = absurd h
 no_turn (Some d) c x ok h = omega (arith, ints, ok d refl)
 
 -- the least of 0 and a bound that is nowhere below 0
-zero_stays : (o : Option ℤ) → ((x : ℤ) → AtMost o x → pos 0 ≤ℤ x) → least_of (Some (pos 0)) o ≡ Some (pos 0)
-zero_stays None h = refl
-zero_stays (Some x) h = let up = h x (≤ℤ_refl x) in ap Some (omega (arith, ints, clamps))
-
 -- a point that meets the table and the row meets the new table
 pub row_sound : (n : ℕ) (D : Differences) (u v : ℕ) (c : ℤ) → u < n → v < n → (p : Point) → Meets n p D → (p u -ℤ p v) ≤ℤ c → Meets n p (with_row D u v c)
 row_sound n D u v c u_in v_in p meets row i j i_in j_in =

@@ -2,12 +2,12 @@
 -- A sum of two bounds is a sum of two differences, of a difference and two halves, or of four halves.
 use Rattle.std.proofs.Common.{◌≡◌, ℕ, ◌<◌, ◌⊎◌, ℤ, pos, ◌+ℤ◌, ◌-ℤ◌, ◌≤ℤ◌, Some, None, Option, sym, refl, ap, subst, inl, inr, ⊎_elim, arith}
 use lib.Signed.{≤ℤ_refl}
-use Rattle.std.proofs.lemmas.Int.{ints, clamps}
+use Rattle.std.proofs.lemmas.Int.{ints}
 use Rattle.bounds.specs.Literals.{Point, Literal, index, mirror, at}
-use Rattle.bounds.specs.Tables.{Differences, AtMost, Allows, half, least_of, sum_of, Strong, Keeps}
+use Rattle.bounds.specs.Tables.{Differences, AtMost, Allows, half, sum_of, Strong, Keeps}
 use Rattle.bounds.specs.Doubling.{code, alone, by_halves, tight, Mirrored}
 use Rattle.bounds.proofs.Attain.{attained}
-use Rattle.bounds.proofs.Bounds.{at_most_more, between, least_left, least_right, least_cases, least_allows, sum_at_most, sum_parts, sum_allows}
+use Rattle.bounds.proofs.Bounds.{at_most_more, between, least_left, least_right, least_cases, least_allows, sum_at_most, sum_parts, sum_allows, zero_stays}
 use Rattle.bounds.proofs.Doubling.{half_at_most, half_from, half_allows, half_allows_twice, half_sum}
 use Rattle.bounds.proofs.Signs.{mirror_mirror, mirrored, at_mirror, half_is}
 
@@ -31,10 +31,6 @@ module _ (D : Differences) (s t : Literal) (x : ℤ) where
 
 twice : (D : Differences) (s : Literal) (a : ℤ) → AtMost (alone D s) a → AtMost (tight D s (mirror s)) (a +ℤ a)
 twice D s a h = halved D s (mirror s) (a +ℤ a) (record { first = a; second = a; from_first = h; from_second = rw (mirror_mirror s) h; in_all = ≤ℤ_refl (a +ℤ a) })
-
-zero_stays : (o : Option ℤ) → ((x : ℤ) → AtMost o x → pos 0 ≤ℤ x) → least_of (Some (pos 0)) o ≡ Some (pos 0)
-zero_stays None h = refl
-zero_stays (Some x) h = let up = h x (≤ℤ_refl x) in ap Some (omega (arith, ints, clamps))
 
 sum_turned : (a b : Option ℤ) → sum_of a b ≡ sum_of b a
 sum_turned None None = refl

@@ -9,13 +9,7 @@ returns-in_err-pop g c =
     let said = c.in_err-pop.ensures in
     rw (p.1, p.2) (omega (arith, said.0, over_depth _ _ c.args.self.now.over), said.1, refl)
 
-pub close_level-requires : goal.close_level-requires
-close_level-requires g c = omega (arith, c.in_ok-pop.ensures.0, over_depth _ _ c.args.self.now.over)
-
 pub invariant_of-self-2 : goal.invariant_of-self-2
 invariant_of-self-2 g c =
     let some : 0 < length c.args.self.now.standing.levels = omega (arith, c.in_ok-pop.ensures.0, over_depth _ _ c.args.self.now.over) in
     rw (c.close_level.ensures, c.in_ok-pop.ensures.1) record { over = over_pop _ _ c.args.self.now.over some }
-
-pub returns : goal.returns
-returns g c = (omega (arith, c.in_ok-pop.ensures.0, over_depth _ _ c.args.self.now.over), c.close_level.ensures)
