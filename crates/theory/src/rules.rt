@@ -8,7 +8,7 @@ use crate::sizes::{Breadth, Sizes};
 
 impl Side {
     // The least breadth that takes this side.
-    fn breadth(self) -> Breadth
+    pub fn breadth(self) -> Breadth
         ensures { result ≡ breadth_of self.a self.b }
     {
         match (self.a, self.b) {

@@ -1,5 +1,5 @@
 // Measures what a put and a tightest question cost over a tower, and writes it to standard error.
-ghost use Rattle.std.specs.Prelude.{◌<◌};
+ghost use Rattle.std.specs.Prelude.{◌≡◌, ◌<◌, IfOk, vec_len};
 
 use crate::dice::Dice;
 use std::alloc::{AllocError, Global};
@@ -12,8 +12,8 @@ use towers::{Tower, Visit, over};
 // What is put and asked, the same for every tower.
 #[derive(Drop)]
 pub struct Load {
-    rows: Vec<Row>,
-    sides: Vec<Side>,
+    pub rows: Vec<Row>,
+    pub sides: Vec<Side>,
 }
 
 // A second of the day for each unknown, at which all rows of the load are met.
@@ -39,6 +39,8 @@ impl Load {
     ) -> Result<Load, AllocError>
         requires some { 0 < unknowns }
         requires callable { D.IsAlwaysCallable draw }
+        ensures rows { IfOk result (λ load. vec_len load.rows ≡ count) }
+        ensures sides { IfOk result (λ load. vec_len load.sides ≡ count) }
     {
         let mut load = Load {
             rows: Vec::new(alloc),

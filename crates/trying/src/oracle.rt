@@ -57,7 +57,7 @@ impl Oracle {
         best
     }
 
-    pub fn is_feasible(&self, rows: &[Row]) -> bool {
+    pub(crate) fn is_feasible(&self, rows: &[Row]) -> bool {
         let any = Side {
             a: Sign::Plus,
             b: Sign::Zero,
@@ -67,7 +67,7 @@ impl Oracle {
         self.greatest_in_box(rows, any).is_some()
     }
 
-    pub fn tightest(&self, rows: &[Row], side: Side) -> Option<i64> {
+    pub(crate) fn tightest(&self, rows: &[Row], side: Side) -> Option<i64> {
         self.greatest_in_box(rows, side)
             .filter(|most| *most <= self.limit)
     }

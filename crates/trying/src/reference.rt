@@ -7,24 +7,15 @@ use theory::row::{Row, Side, Sign};
 use theory::sizes::Breadth;
 
 #[derive(Drop)]
-pub struct Reference {
+pub(crate) struct Reference {
     breadth: Breadth,
     oracle: Oracle,
     rows: Vec<Row>,
     levels: Vec<usize>,
 }
 
-// The least breadth that takes the side.
-fn breadth_of(side: Side) -> Breadth {
-    match (side.a, side.b) {
-        (_, Sign::Zero) => Breadth::Bounds,
-        (Sign::Plus, Sign::Minus) | (Sign::Minus, Sign::Plus) => Breadth::Differences,
-        _ => Breadth::Sums,
-    }
-}
-
 impl Reference {
-    pub fn new(alloc: Global, breadth: Breadth, oracle: Oracle) -> Reference {
+    pub(crate) fn new(alloc: Global, breadth: Breadth, oracle: Oracle) -> Reference {
         Reference {
             breadth,
             oracle,
@@ -33,7 +24,7 @@ impl Reference {
         }
     }
 
-    pub fn answer(&mut self, call: Call) -> Result<Answer, AllocError> {
+    pub(crate) fn answer(&mut self, call: Call) -> Result<Answer, AllocError> {
         Ok(match call {
             Call::Push => {
                 self.levels.push(self.rows.len())?;
@@ -51,7 +42,7 @@ impl Reference {
         if side.b != Sign::Zero && side.u == side.v {
             return Err(Refusal::Twice);
         }
-        if breadth_of(side) > self.breadth {
+        if side.breadth() > self.breadth {
             return Err(Refusal::Breadth);
         }
         Ok(())

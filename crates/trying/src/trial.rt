@@ -1,4 +1,7 @@
 // A list of random calls, what the reference answers to each, and how a tower compares.
+ghost use Rattle.std.specs.Prelude.{◌≡◌, ◌-◌, ◌^◌, ◌<◌, ◌↔◌, IfOk, OnErr, is_err, count_by, vec_len};
+ghost use Rattle.trying.specs.Counts.{capped_sum, GivesAll};
+
 use crate::oracle::Oracle;
 use crate::reference::Reference;
 use crate::tally::Tally;
@@ -10,8 +13,8 @@ use towers::{Tower, VisitBoth, over_both};
 
 #[derive(Drop)]
 pub struct Trial {
-    calls: Vec<Call>,
-    answers: Vec<Answer>,
+    pub calls: Vec<Call>,
+    pub answers: Vec<Answer>,
 }
 
 impl Trial {
@@ -24,6 +27,8 @@ impl Trial {
         mut draw: D,
     ) -> Result<Trial, AllocError>
         requires { D.IsAlwaysCallable draw }
+        ensures calls { IfOk result (λ trial. vec_len trial.calls ≡ count) }
+        ensures answers { IfOk result (λ trial. vec_len trial.answers ≡ count) }
     {
         let mut reference = Reference::new(alloc, breadth, oracle);
         let mut trial = Trial {
@@ -39,16 +44,20 @@ impl Trial {
     }
 
     // Notes each answer of an engine over the tower.
-    pub fn try_over(
-        &self,
-        alloc: Global,
-        tower: Tower,
-        tally: &mut Tally,
-    ) -> Result<History, Fault> {
+    pub fn try_over(&self, alloc: Global, tower: Tower, tally: &mut Tally) -> Result<History, Fault>
+        ensures err { OnErr result (tally.new ≡ tally.old) }
+        ensures calls { IfOk result (λ _.
+            tally.new.calls ≡ capped_sum tally.old.calls (vec_len self.now.answers)) }
+        ensures refused { IfOk result (λ _.
+            tally.new.refused ≡ capped_sum tally.old.refused (count_by is_err self.now.answers.items)) }
+
+        // Unless the count is at its most already, it stays where all expected answers are given, and only there.
+        ensures wrong { tally.old.wrong < 2 ^ 64 - 1 → IfOk result (λ history.
+            (tally.new.wrong ≡ tally.old.wrong)
+            ↔ GivesAll self.now.answers.items history.answers.items) }
+    {
         let history = over_both(tower, tower, Trying { alloc, trial: self })?;
-        for (place, expected) in self.answers.iter().enumerate() {
-            tally.note(*expected, history.answers.get(place).copied());
-        }
+        tally.note_all(self.answers.as_slice(), history.answers.as_slice());
         Ok(history)
     }
 }
