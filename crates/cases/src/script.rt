@@ -56,6 +56,7 @@ pub fn memory_is_enough(
     head_count: usize,
     mark_count: usize,
 ) -> bool {
+    // Arrays of its own: slices of what a `Room` lends were tried, and the check does not follow them.
     let mut edges = [Edge::blank(); EDGES];
     let mut levels = [0; LEVELS];
     let mut saved = [Potentials::zero(); SAVED];

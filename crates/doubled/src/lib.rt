@@ -61,21 +61,16 @@ fn halves(sizes: Sizes) -> Sizes
 }
 
 impl<T: Theory> Doubled<T> {
-    // Starts over an empty theory only; otherwise, and for want of memory, the theory is handed back as it was. A match and
-    // no `?`, since it goes on both ways.
+    // Starts over an empty theory only; otherwise, and for want of memory, the theory is handed back as it was.
     pub fn new(alloc: Global, below: T) -> Result<Doubled<T>, Unstarted<T>>
         ensures { Started T.meaning (λ d. d.standing) half_sizes below result }
     {
-        match Standing::over(alloc, &below, halves(below.sizes())) {
-            Ok(standing) => Ok(Doubled {
-                below: Below { theory: below },
-                standing,
-            }),
-            Err(cause) => Err(Unstarted {
-                theory: below,
-                cause,
-            }),
-        }
+        let sizes = halves(below.sizes());
+        let (theory, standing) = Standing::over(alloc, below, sizes)?;
+        Ok(Doubled {
+            below: Below { theory },
+            standing,
+        })
     }
 
     // The greatest value of the terms over the points that meet the standing rows.
@@ -158,7 +153,8 @@ impl<T: Theory> Theory for Doubled<T> {
     }
 }
 
-// What starts doubled theories over what `S` starts.
+// What starts doubled theories over what `S` starts. It reads as what starts filters; one struct for both would need a type
+// that stands for a layer over any theory, which Rust does not have.
 #[derive(Clone, Copy, Debug)]
 pub struct OverDoubled<S>(pub S);
 

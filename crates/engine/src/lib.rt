@@ -34,15 +34,13 @@ impl<T: Theory> Model for Engine<T> {
 
 impl<T: Theory> Engine<T> {
     // Starts over an empty theory only; otherwise, and for want of memory, the theory is handed back as it was.
-    // All memory is asked for here: space for the rows and levels that the sizes allow. A match and no `?`, since the theory
-    // goes on both ways.
+    // All memory is asked for here: space for the rows and levels that the sizes allow.
     pub fn new(alloc: Global, theory: T) -> Result<Engine<T>, Unstarted<T>>
         ensures { Started T.meaning (λ e. e) (λ z. z) theory result }
     {
-        match Standing::over(alloc, &theory, theory.sizes()) {
-            Ok(standing) => Ok(Engine { theory, standing }),
-            Err(cause) => Err(Unstarted { theory, cause }),
-        }
+        let sizes = theory.sizes();
+        let (theory, standing) = Standing::over(alloc, theory, sizes)?;
+        Ok(Engine { theory, standing })
     }
 
     pub fn offer(&mut self, row: Row) -> Result<(), Refusal>

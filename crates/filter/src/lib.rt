@@ -43,18 +43,13 @@ fn pass<T: Theory>(below: &mut T, row: Row) -> Result<(), Refusal>
 }
 
 impl<T: Theory> Filter<T> {
-    // Starts over an empty theory only; otherwise, and for want of memory, the theory is handed back as it was. A match and
-    // no `?`, since it goes on both ways.
+    // Starts over an empty theory only; otherwise, and for want of memory, the theory is handed back as it was.
     pub fn new(alloc: Global, below: T) -> Result<Filter<T>, Unstarted<T>>
         ensures { Started T.meaning (λ f. f.standing) (λ z. z) below result }
     {
-        match Standing::over(alloc, &below, below.sizes()) {
-            Ok(standing) => Ok(Filter { below, standing }),
-            Err(cause) => Err(Unstarted {
-                theory: below,
-                cause,
-            }),
-        }
+        let sizes = below.sizes();
+        let (below, standing) = Standing::over(alloc, below, sizes)?;
+        Ok(Filter { below, standing })
     }
 }
 
@@ -106,7 +101,7 @@ impl<T: Theory> Theory for Filter<T> {
 }
 
 // What starts filters over what `S` starts.
-#[derive(Clone, Copy)]
+#[derive(Clone, Copy, Debug)]
 pub struct OverFilter<S>(pub S);
 
 impl<S: Start> Start for OverFilter<S> {

@@ -1,6 +1,6 @@
 -- Runs put one after the other. Assumes nothing.
-use Rattle.std.proofs.Common.{◌≡◌, ℕ, ◌+◌, ◌<◌, ◌≤◌, List, [], ◌∷◌, ◌++◌, length, get_or, take, sym, refl, ap, ◌∙◌, subst}
-use Rattle.std.proofs.lemmas.List.{take_more, take_all}
+use Rattle.std.proofs.Common.{◌≡◌, ℕ, ◌+◌, ◌<◌, List, [], ◌∷◌, ◌++◌, length, get_or, take, sym, refl, ap, ◌∙◌, subst}
+use Rattle.std.proofs.lemmas.List.{take_more}
 use Rattle.theory.specs.Meaning.{Meaning}
 use Rattle.histories.specs.declared.Call.{Call}
 use Rattle.histories.specs.Steps.{Answer, Step}
@@ -17,6 +17,3 @@ pub run_more : (m k n : Meaning) (cs : List Call) (i : ℕ) (c : Call) (bs bs' :
 run_more m k n cs i c bs bs' a within read r s e =
     let more : take (i + 1) cs ≡ take i cs ++ c ∷ [] = take_more cs i c within ∙ ap (λ x. take i cs ++ x ∷ []) (sym read) in
     subst (λ xs. Run m xs bs' n) (sym more) (subst (λ ys. Run m (take i cs ++ c ∷ []) ys n) (sym e) (run_append m k n (take i cs) (c ∷ []) bs (a ∷ []) r (n, s, refl)))
-
-pub run_whole : (m n : Meaning) (cs : List Call) (i : ℕ) (bs : List Answer) → length cs ≤ i → Run m (take i cs) bs n → Run m cs bs n
-run_whole m n cs i bs past r = subst (λ xs. Run m xs bs n) (take_all i cs past) r

@@ -18,13 +18,13 @@ pub fn print_history(rt: &HostRuntime, script: &Script, history: &History) -> io
     for line in &script.lines {
         print_line(rt, *line, history)?;
     }
-    // By name, since a format takes a field once only.
-    let rows = history.rows;
-    let levels = history.levels;
-    println!(rt; "standing: {rows} rows, {levels} levels")?;
     println!(rt;
-        "second engine: took {} of {rows} offers and {levels} pushes",
-        history.taken
+        "standing: {} rows, {} levels",
+        history.rows, history.levels
+    )?;
+    println!(rt;
+        "second engine: took {} of {} offers and {} pushes",
+        history.taken, history.rows, history.levels
     )?;
     println!(rt;
         "last call again, first engine: {}",

@@ -2,7 +2,7 @@
 use histories::Call;
 use std::str::{FromStr, SplitWhitespace};
 use theory::row::{Row, Side};
-use towers::{Bottom, Layers, Tower};
+use towers::{Layers, Tower};
 
 // What a line says that is neither empty nor a comment.
 #[derive(Clone, Copy)]
@@ -37,13 +37,9 @@ fn next_row(words: &mut SplitWhitespace) -> Option<Row> {
     })
 }
 
-// A bottom, and the layers that the rest of the line names.
+// A bottom, and the layers that the rest of the line names: words that any spaces part, and so no text of a `Layers`.
 fn next_tower(words: &mut SplitWhitespace) -> Option<Tower> {
-    let bottom = match words.next()? {
-        "dense" => Bottom::Dense,
-        "sparse" => Bottom::Sparse,
-        _ => return None,
-    };
+    let bottom = next(words)?;
     let layers = match (words.next(), words.next(), words.next()) {
         (None, _, _) => Layers::None,
         (Some("filter"), None, _) => Layers::Filter,

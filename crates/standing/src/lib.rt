@@ -4,10 +4,10 @@
 #![tactic(auto)]
 
 ghost use Rattle.std.specs.Prelude.{◌≡◌, ◌<◌, length, MatchResult};
-ghost use Rattle.theory.specs.Meaning.{empty, with_row, with_level, without_level};
-ghost use Rattle.standing.specs.Starts.{StartedOver, UnstartedBy};
+ghost use Rattle.theory.specs.Meaning.{with_row, with_level, without_level};
+ghost use Rattle.standing.specs.Starts.{StartedOver, StartedWith, UnstartedBy};
 
-use start::Cause;
+use start::{Cause, Unstarted};
 use std::alloc::Global;
 use std::marker::Model;
 use theory::row::Row;
@@ -38,8 +38,8 @@ impl Model for Standing {
 }
 
 impl Standing {
-    // Nothing stands yet. Refused where the theory below is not empty.
-    pub fn over<T: Theory>(alloc: Global, below: &T, sizes: Sizes) -> Result<Standing, Cause>
+    // Nothing stands yet, over an empty theory with these sizes.
+    fn empty<T: Theory>(alloc: Global, below: &T, sizes: Sizes) -> Result<Standing, Cause>
         ensures { MatchResult result (StartedOver (T.meaning below.now) sizes) (UnstartedBy (T.meaning below.now)) }
     {
         check_empty(below)?;
@@ -48,6 +48,24 @@ impl Standing {
             levels: Vec::with_capacity(alloc, sizes.depth as usize)?,
             sizes,
         })
+    }
+
+    // The theory below, and what stands over it, which is nothing yet. Where the theory is not empty, and for want of memory,
+    // it is handed back as it was. A match and no `?`, since the theory goes on both ways.
+    pub fn over<T: Theory>(
+        alloc: Global,
+        below: T,
+        sizes: Sizes,
+    ) -> Result<(T, Standing), Unstarted<T>>
+        ensures { StartedWith T.meaning sizes below result }
+    {
+        match Standing::empty(alloc, &below, sizes) {
+            Ok(standing) => Ok((below, standing)),
+            Err(cause) => Err(Unstarted {
+                theory: below,
+                cause,
+            }),
+        }
     }
 
     pub fn sizes(&self) -> Sizes

@@ -2,11 +2,16 @@
 // visits it, and lends the sparse bottom its memory for as long as the visit takes.
 #![tactic(auto)]
 
+ghost use Rattle.std.specs.Prelude.{Some};
+ghost use Rattle.towers.specs.Text.{bottom_text, ReadsBottom};
+
 use dense::OverDense;
 use doubled::OverDoubled;
 use filter::OverFilter;
 use sparse::room::Room;
+use std::error::Error;
 use std::fmt;
+use std::str::FromStr;
 use theory::Start;
 
 #[derive(Clone, Copy, PartialEq, Eq, Debug)]
@@ -16,11 +21,39 @@ pub enum Bottom {
 }
 
 impl fmt::Display for Bottom {
+    ghost output = { λ b. Some (bottom_text b) };
+
     fn fmt<W: fmt::Write>(&self, f: &mut fmt::Formatter<W>) -> fmt::Result {
         f.write_str(match self {
             Bottom::Dense => "dense",
             Bottom::Sparse => "sparse",
         })
+    }
+}
+
+// A word that names no bottom.
+#[derive(Clone, Copy, PartialEq, Eq, Debug)]
+pub struct NoBottom;
+
+impl fmt::Display for NoBottom {
+    fn fmt<W: fmt::Write>(&self, f: &mut fmt::Formatter<W>) -> fmt::Result {
+        write!(f, "no bottom")
+    }
+}
+
+impl Error for NoBottom {}
+
+impl FromStr for Bottom {
+    type Err = NoBottom;
+
+    ghost from_str_gives = { ReadsBottom };
+
+    fn from_str(word: &str) -> Result<Bottom, NoBottom> {
+        match word {
+            "dense" => Ok(Bottom::Dense),
+            "sparse" => Ok(Bottom::Sparse),
+            _ => Err(NoBottom),
+        }
     }
 }
 

@@ -2,9 +2,9 @@
 // standard error.
 #![tactic(auto)]
 
+use anyhow::Result;
 use histories::Fault;
 use std::alloc::Global;
-use std::io;
 use theory::sizes::Breadth;
 use towers::{Bottom, Layers, Tower};
 use trying::dice::Dice;
@@ -29,7 +29,7 @@ const BOTTOMS: [Tower; 2] = [
 ];
 
 // The same calls over each bottom.
-fn try_bottom(alloc: Global, bottom: Tower) -> Result<Tally, Fault> {
+fn try_bottom(alloc: Global, bottom: Tower) -> std::result::Result<Tally, Fault> {
     let mut tally = Tally::default();
     let mut dice = Dice::new(1, oracle::UNKNOWNS);
     for _ in 0..ENGINES {
@@ -45,12 +45,10 @@ fn try_bottom(alloc: Global, bottom: Tower) -> Result<Tally, Fault> {
     Ok(tally)
 }
 
-fn main(rt: HostRuntime) -> io::Result<()> {
+fn main(rt: HostRuntime) -> Result<()> {
     for bottom in &BOTTOMS {
-        match try_bottom(rt.alloc(), *bottom) {
-            Ok(tally) => println!(rt; "{bottom}: {tally}")?,
-            Err(fault) => println!(rt; "{fault}")?,
-        }
+        let tally = try_bottom(rt.alloc(), *bottom)?;
+        println!(rt; "{bottom}: {tally}")?;
     }
     let load = Load::new(rt.alloc(), 64, 1000, |dice| dice.difference())?;
     for bottom in &BOTTOMS {

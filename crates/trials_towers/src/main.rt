@@ -3,7 +3,7 @@
 #![tactic(auto)]
 
 use histories::Fault;
-use std::alloc::{AllocError, Global};
+use std::alloc::Global;
 use std::io;
 use theory::sizes::Breadth;
 use towers::{Bottom, Layers, Tower};
@@ -27,67 +27,79 @@ const WIDE: [Layers; 4] = [
     Layers::DoubledDoubled,
 ];
 
+// The layers over each bottom.
 #[derive(Clone, Copy)]
 struct Line {
-    tower: Tower,
-    tally: Tally,
+    layers: Layers,
+    dense: Tally,
+    sparse: Tally,
 }
 
-// The layers over each bottom, in the order of the report.
-fn lines(alloc: Global, layers: &[Layers]) -> Result<Vec<Line>, AllocError> {
-    let mut lines = Vec::new(alloc);
-    for layers in layers {
-        for bottom in [Bottom::Dense, Bottom::Sparse] {
-            lines.push(Line {
-                tower: Tower {
-                    bottom,
-                    layers: *layers,
-                },
-                tally: Tally::default(),
-            })?;
+impl Line {
+    fn new(layers: Layers) -> Line {
+        Line {
+            layers,
+            dense: Tally::default(),
+            sparse: Tally::default(),
         }
     }
-    Ok(lines)
+
+    fn over(&self, bottom: Bottom) -> Tower {
+        Tower {
+            bottom,
+            layers: self.layers,
+        }
+    }
 }
 
-// The same trials for every tower. The answers to the last call, made once more on both engines, count as a call too.
+// The answers to the last call, made once more on both engines, count as a call too.
+fn try_tower(alloc: Global, trial: &Trial, tower: Tower, tally: &mut Tally) -> Result<(), Fault> {
+    let history = trial.try_over(alloc, tower, tally)?;
+    tally.note(history.first, Some(history.second));
+    Ok(())
+}
+
+// The same trials for every tower.
 fn try_towers(alloc: Global, breadth: Breadth, lines: &mut [Line]) -> Result<(), Fault> {
     let mut dice = Dice::new(1, oracle::UNKNOWNS);
     for _ in 0..TRIALS {
-        let trial = Trial::new(alloc, breadth, oracle::SUMS, CALLS, || { dice.call() })?;
+        let trial = Trial::new(alloc, breadth, oracle::SUMS, CALLS, || dice.call())?;
         for line in lines.iter_mut() {
-            let history = trial.try_over(alloc, line.tower, &mut line.tally)?;
-            line.tally.note(history.first, Some(history.second));
+            try_tower(alloc, &trial, line.over(Bottom::Dense), &mut line.dense)?;
+            try_tower(alloc, &trial, line.over(Bottom::Sparse), &mut line.sparse)?;
         }
     }
     Ok(())
 }
 
-fn print_trials(rt: &HostRuntime, breadth: Breadth, layers: &[Layers]) -> io::Result<()> {
-    let mut lines = lines(rt.alloc(), layers)?;
-    if let Err(fault) = try_towers(rt.alloc(), breadth, lines.as_mut_slice()) {
+fn print_trials(rt: &HostRuntime, breadth: Breadth, lines: &mut [Line]) -> io::Result<()> {
+    if let Err(fault) = try_towers(rt.alloc(), breadth, lines) {
         return println!(rt; "{fault}");
     }
-    for line in &lines {
-        println!(rt; "{}: {}", line.tower, line.tally)?;
+    for line in lines.iter() {
+        println!(rt; "{}: {}", line.over(Bottom::Dense), line.dense)?;
+        println!(rt; "{}: {}", line.over(Bottom::Sparse), line.sparse)?;
     }
     Ok(())
 }
 
-fn measure_towers(rt: &HostRuntime, layers: &[Layers], load: &Load) -> io::Result<()> {
-    for line in &lines(rt.alloc(), layers)? {
-        measure(rt, line.tower, load)?;
+fn measure_towers(rt: &HostRuntime, lines: &[Line], load: &Load) -> io::Result<()> {
+    for line in lines {
+        measure(rt, line.over(Bottom::Dense), load)?;
+        measure(rt, line.over(Bottom::Sparse), load)?;
     }
     Ok(())
 }
 
 fn main(rt: HostRuntime) -> io::Result<()> {
-    print_trials(&rt, Breadth::Differences, &NARROW)?;
-    print_trials(&rt, Breadth::Sums, &WIDE)?;
+    let mut narrow = NARROW.map(Line::new);
+    let mut wide = WIDE.map(Line::new);
+    print_trials(&rt, Breadth::Differences, &mut narrow)?;
+    print_trials(&rt, Breadth::Sums, &mut wide)?;
     let differences = Load::new(rt.alloc(), 64, 1000, |dice| dice.signed_difference())?;
-    measure_towers(&rt, &NARROW, &differences)?;
+    measure_towers(&rt, &narrow, &differences)?;
     let sums = Load::new(rt.alloc(), 32, 500, |dice| dice.side())?;
-    measure_towers(&rt, &WIDE[0..3], &sums)?;
+    measure_towers(&rt, &wide[0..3], &sums)?;
     let few = Load::new(rt.alloc(), 16, 200, |dice| dice.side())?;
-    measure_towers(&rt, &WIDE[3..4], &few)
+    measure_towers(&rt, &wide[3..4], &few)
 }

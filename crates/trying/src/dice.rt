@@ -67,7 +67,7 @@ impl Dice {
         difference_of(self.sign(), u, v)
     }
 
-    // The same, the sign first.
+    // The same, the sign first: a second order of draws, so that each program's random rows are the ones that it always had.
     pub fn signed_difference(&mut self) -> Side
         ensures side { IsDifference self.old.unknowns result }
         ensures unknowns { self.new.unknowns ≡ self.old.unknowns }
@@ -121,7 +121,7 @@ impl Dice {
         }
     }
 
-    // Offers and questions mostly, of all sides, and rows at their places.
+    // Offers and questions mostly, of all sides, and rows at their places: other chances than above, for the same reason.
     pub fn call(&mut self) -> Call
         ensures call { IsAbout (IsSide self.old.unknowns) result }
         ensures unknowns { self.new.unknowns ≡ self.old.unknowns }

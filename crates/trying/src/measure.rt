@@ -2,10 +2,11 @@
 ghost use Rattle.std.specs.Prelude.{◌≡◌, ◌<◌, IfOk, vec_len};
 
 use crate::dice::Dice;
+use crate::oracle::value;
 use std::alloc::{AllocError, Global};
 use std::io;
 use std::time::Instant;
-use theory::row::{Row, Side, Sign};
+use theory::row::{Row, Side};
 use theory::{Start, Theory};
 use towers::{Tower, Visit, over};
 
@@ -19,14 +20,6 @@ pub struct Load {
 // A second of the day for each unknown, at which all rows of the load are met.
 fn hidden_value(unknown: u32) -> i64 {
     i64::from(unknown) * 7919 % 86_400
-}
-
-fn hidden_term(sign: Sign, unknown: u32) -> i64 {
-    match sign {
-        Sign::Zero => 0,
-        Sign::Plus => hidden_value(unknown),
-        Sign::Minus => hidden_value(unknown).wrapping_neg(),
-    }
 }
 
 impl Load {
@@ -50,9 +43,7 @@ impl Load {
         for _ in 0..count {
             let side = draw(&mut dice);
             let room = dice.roll(1000) as i64;
-            let c = hidden_term(side.a, side.u)
-                .wrapping_add(hidden_term(side.b, side.v))
-                .wrapping_add(room);
+            let c = value(side, hidden_value).wrapping_add(room);
             load.rows.push(Row { side, c })?;
             load.sides.push(draw(&mut dice))?;
         }

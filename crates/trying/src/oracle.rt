@@ -22,8 +22,7 @@ pub const SUMS: Oracle = Oracle {
 
 type Point = [i64; 3];
 
-fn term(sign: Sign, unknown: u32, at: &Point) -> i64 {
-    let x = at.get(unknown as usize).copied().unwrap_or(0);
+fn signed(sign: Sign, x: i64) -> i64 {
     match sign {
         Sign::Zero => 0,
         Sign::Plus => x,
@@ -31,12 +30,21 @@ fn term(sign: Sign, unknown: u32, at: &Point) -> i64 {
     }
 }
 
-fn value(side: Side, at: &Point) -> i64 {
-    term(side.a, side.u, at).wrapping_add(term(side.b, side.v, at))
+// What the side comes to where the unknowns have these values.
+pub(crate) fn value<X: Fn(u32) -> i64>(side: Side, x: X) -> i64
+    requires { X.IsAlwaysCallable x }
+{
+    signed(side.a, x(side.u)).wrapping_add(signed(side.b, x(side.v)))
+}
+
+fn value_at(side: Side, at: &Point) -> i64 {
+    value(side, |unknown| {
+        at.get(unknown as usize).copied().unwrap_or(0)
+    })
 }
 
 fn meets_all(at: &Point, rows: &[Row]) -> bool {
-    rows.iter().all(|row| value(row.side, at) <= row.c)
+    rows.iter().all(|row| value_at(row.side, at) <= row.c)
 }
 
 impl Oracle {
@@ -49,7 +57,7 @@ impl Oracle {
                 for x in -reach..=reach {
                     let at = [x, y, z];
                     if meets_all(&at, rows) {
-                        best = best.max(Some(value(side, &at)));
+                        best = best.max(Some(value_at(side, &at)));
                     }
                 }
             }

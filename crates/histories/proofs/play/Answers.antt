@@ -1,5 +1,5 @@
 use Rattle.std.proofs.Common.{arith, rules}
-use Rattle.histories.proofs.Joins.{run_more, run_whole}
+use Rattle.histories.proofs.Joins.{run_more}
 use Rattle.histories.proofs.play.Goals as goal
 
 pub loop-call-preserved : goal.loop-call-preserved
@@ -8,6 +8,3 @@ loop-call-preserved g c = (
   omega arith,
   omega arith,
 )
-
-pub returns : goal.returns
-returns g c = run_whole _ c.loop-call.engine c.args.calls.now c.loop-call.call-index _ c.loop-call-test.false c.loop-call.invariant.0
