@@ -1,4 +1,3 @@
 pub mod Lines
 pub mod Stacks
 pub mod Steps
-pub mod Sums

@@ -1,3 +1,5 @@
 pub mod Existence
+pub mod Lines
 pub mod Sides
+pub mod Sums
 pub mod Tables

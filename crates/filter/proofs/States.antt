@@ -11,7 +11,7 @@ use Rattle.theory.specs.declared.row.Row.{Row}
 use Rattle.theory.specs.declared.row.Side.{Side}
 use Rattle.theory.specs.Rows.{Point, Meets, Greatest}
 use Rattle.theory.specs.Meaning.{Meaning, Sane, newest, with_row, with_level, without_level}
-use Rattle.theory.specs.Calls.{put_fault, Put, Tightest}
+use Rattle.theory.specs.Calls.{put_fault, Tightest}
 use Rattle.theory.proofs.Faults.{passed_both, both_passed}
 use Rattle.filter.specs.Filters.{Stack, Over, Passed}
 use Rattle.filter.specs.Sanity.{over_long}
@@ -71,14 +71,6 @@ pub fault_below : (m b : Meaning) → Over m b → (r : Row) → put_fault m r �
 fault_below m b over r h =
     let room : length b.rows < b.sizes.space = omega (arith, put_room m r h, over.same.fewer, ap (λ z. z.space) over.sizes) in
     both_passed _ _ _ (rw over.sizes at (passed_both _ _ _ h).0) (lt-leb _ _ room)
-
--- a put below that breaks none of the rules 1 to 6 passes the row on
-pub passed_by_put : (m b n : Meaning) (r : Row) (a : Result (Unit {0}) Refusal) → b ≡ m → put_fault m r ≡ None → Put b r a n → Passed m r a n
-passed_by_put m b n r a is fair h = by a (rw is at h)
-  where
-    by : (a : Result (Unit {0}) Refusal) → Put m r a n → Passed m r a n
-    by (Ok x) h = (h.1, inr h.2)
-    by (Err e) h = let said = rw fair at h.0 in (said.0, said.1, h.1)
 
 -- a row whose side has a greatest value of c or less is implied
 pub passed_by_bound : (m n : Meaning) (r : Row) (most : ℤ) → n ≡ m → Sane m → Greatest m.rows r.side (Some most) → most ≤ℤ r.c → Passed m r (Ok tt) n

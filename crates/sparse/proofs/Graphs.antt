@@ -1,7 +1,7 @@
 -- What is known of the edges of a graph, and of a graph when an edge comes or leaves. Assumes nothing.
-use Rattle.std.proofs.Common.{◌≡◌, ℕ, ◌-◌, ◌<◌, ◌≤◌, List, [], ◌∷◌, ◌++◌, length, get_or, take, nat_abs, replicate, sym, refl, ap, ◌∙◌, subst, arith}
+use Rattle.std.proofs.Common.{◌≡◌, ℕ, ◌<◌, ◌≤◌, List, [], ◌∷◌, ◌++◌, length, get_or, take, nat_abs, replicate, sym, refl, ap, ◌∙◌, subst, arith}
 use Rattle.std.specs.List.{AllWithin}
-use Rattle.std.proofs.lemmas.List.{length_push, get_or_push, get_or_append_left, take-take, length-take-le, get_or-take, get_or-replicate, length-replicate}
+use Rattle.std.proofs.lemmas.List.{length_push, get_or_push, get_or_append_left, length-take-le, get_or-replicate, length-replicate}
 use Rattle.std.proofs.lemmas.List.Elements.{AllWithin-push}
 use Rattle.theory.specs.declared.row.Row.{Row}
 use Rattle.sparse.specs.declared.graph.Edge.{Edge}
@@ -38,21 +38,9 @@ stands es hs all_fair chained i e i_in is =
 pub fair_add : (es es' : List Edge) (r : Row) → AllFair es → Fair r → Added es r es' → AllFair es'
 fair_add es es' r all_fair fair a = rw a.is (AllWithin-push (λ x. Fair x.row) es a.edge all_fair (rw a.row fair))
 
-pub fit_add : (es es' : List Edge) (r : Row) → length es < 1024 → Added es r es' → length es' ≤ 1024
-fit_add es es' r few a = omega (arith, ap length a.is, length_push es a.edge)
-
-pub fair_take : (n : ℕ) (es : List Edge) → n ≤ length es → AllFair es → AllFair (take n es)
-fair_take n es n_in fair k d low high = let long = length-take-le n es n_in in rw (get_or-take n es k d (omega arith)) (fair k d low (omega arith))
-
 -- the edge that leaves
 pub newest_fair : (es es' : List Edge) (e : Edge) → es ≡ es' ++ e ∷ [] → AllFair es → Fair e.row
 newest_fair es es' e is fair = subst (λ x. Fair x.row) (get_or_push es' e e (length es') refl) (rw is at fair (length es') e (omega arith) (omega (arith, length_push es' e)))
-
--- the first of xs, one fewer
-pub take_fewer : {X : Type 0} (xs ys zs : List X) → ys ≡ take (length ys) xs → zs ≡ take (length ys - 1) ys → (zs ≡ take (length zs) xs) × (length zs ≡ length ys - 1)
-take_fewer xs ys zs first fewer =
-    let long : length zs ≡ length ys - 1 = ap length fewer ∙ length-take-le (length ys - 1) ys (omega arith) in
-    (fewer ∙ ap (take (length ys - 1)) first ∙ take-take (length ys - 1) (length ys) xs (omega arith) ∙ ap (λ n. take n xs) (sym long), long)
 
 -- the chains where there are no edges
 pub chained_empty : (es : List Edge) (hs : List ℕ) → es ≡ [] → ((v : ℕ) → v < 64 → get_or hs v 0 ≡ 0) → Chained es hs
@@ -61,6 +49,8 @@ chained_empty es hs none clear = rw none (record {
   nexts = λ i d i_in. absurd (omega arith);
 })
 
--- the first places hold 0, whatever stands behind them
-pub clear_front : (n : ℕ) (front rest : List ℕ) → front ≡ replicate n 0 → (k : ℕ) → k < n → get_or (front ++ rest) k 0 ≡ 0
-clear_front n front rest is k k_in = rw is (get_or_append_left (replicate n 0) rest 0 k (omega (arith, length-replicate {A = ℕ} n 0)) ∙ get_or-replicate n k 0 0 k_in)
+-- the first places, which were filled, hold 0, whatever stands behind them
+pub clear_front : (n : ℕ) (xs front rest : List ℕ) → n ≤ length xs → front ≡ replicate (length (take n xs)) 0 → (k : ℕ) → k < n → get_or (front ++ rest) k 0 ≡ 0
+clear_front n xs front rest long is k k_in =
+    let filled : front ≡ replicate n 0 = is ∙ ap (λ l. replicate l 0) (length-take-le n xs long) in
+    rw filled (get_or_append_left (replicate n 0) rest 0 k (omega (arith, length-replicate {A = ℕ} n 0)) ∙ get_or-replicate n k 0 0 k_in)

@@ -6,7 +6,6 @@ pub mod Counts
 pub mod Walks
 pub mod Sums
 pub mod Runs
-pub mod Lines
 pub mod Rows
 pub mod Greatest
 pub mod Repairs

@@ -10,7 +10,8 @@ use Rattle.sparse.specs.Edges.{Met, Keeps}
 use Rattle.sparse.specs.Points.{Holds}
 use Rattle.sparse.specs.Distances.{Found, Lowered}
 use Rattle.differences.proofs.Sides.{ends_of, fair_side, fair_near}
-use Rattle.sparse.proofs.Sums.{computed, sum_is, opposite_is, at_most}
+use Rattle.differences.proofs.Sums.{computed, sum_is}
+use Rattle.sparse.proofs.Sums.{opposite_is, at_most}
 use Rattle.sparse.proofs.Graphs.{fair_ends}
 use Rattle.sparse.proofs.Greatest.{small_point}
 use Rattle.sparse.proofs.Repairs.{row_leads, met_leads, holds_met, circle, holds_repaired}
@@ -41,7 +42,7 @@ asked es p row s t a few h fair ends is =
 
 module _ (es : List Edge) (p : Point) (h : Holds es p) (row : Row) (s t : ℕ) (a : ℤ) (k : Asked p row s t a) where
   base_is : computed a row.c ≡ p s +ℤ row.c
-  base_is = sum_is a row.c k.near k.c_near ∙ ap (λ z. z +ℤ row.c) k.is
+  base_is = sum_is a row.c (omega (arith, k.near)) k.c_near ∙ ap (λ z. z +ℤ row.c) k.is
 
   pub told_met : (x : ℤ) → SFits w64 x → x ≡ p t → le_z (to_z w64 (of_z w64 x)) (computed a row.c) ≡ true → (e : Edge) → e.row ≡ row → Holds (es ++ e ∷ []) p
   told_met x fits is met e e_is =

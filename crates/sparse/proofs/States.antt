@@ -24,6 +24,12 @@ use Rattle.sparse.proofs.Rows.{keeps_from_all, met_from_meets}
 pub graph_rising : (g : Graph) → Rising (levels_of g) (length (edges_of g))
 graph_rising g = subst (Rising (levels_of g)) (sym (length-take-le g.edges.len g.edges.entries.now g.edges.fits)) g.edges.rising
 
+-- the potentials and those that were saved fit the edges and the levels
+pub record Fits (es : List Edge) (ls : List ℕ) (ps : List Potentials) (p : Potentials) : Type 0 where
+  pub saved_each : Saved es ls ps
+  pub holds : Holds es (point_of p)
+  pub one_each : length ps ≡ length ls
+
 module _ (es : List Edge) (ls : List ℕ) (ps : List Potentials) (rising : Rising ls (length es)) (saved : Saved es ls ps) where
   -- an edge more
   saved_more : (r : Row) (es' : List Edge) → Added es r es' → Saved es' ls ps
@@ -44,7 +50,7 @@ module _ (es : List Edge) (ls : List ℕ) (ps : List Potentials) (rising : Risin
     count : length rest ≡ length ls - 1
     count = omega (arith, ap length taken, length_push rest p)
 
-    pub saved_close : Saved (take (newest ls) es) (take (length ls - 1) ls) rest
+    saved_close : Saved (take (newest ls) es) (take (length ls - 1) ls) rest
     saved_close i d i_in =
         let last = length ls - 1 in
         let fewer = length-take-le last ls (omega arith) in
@@ -53,14 +59,17 @@ module _ (es : List Edge) (ls : List ℕ) (ps : List Potentials) (rising : Risin
         let at = ap (λ xs. get_or xs i d) taken ∙ get_or_append_left rest (p ∷ []) d i (omega (arith, count)) in
         rw (get_or-take last ls i 0 within, take-take (get_or ls i 0) (newest ls) es older) (subst (λ q. Holds (take (get_or ls i 0) es) (point_of q)) at (saved i d (omega arith)))
 
-    pub holds_close : Holds (take (newest ls) es) (point_of p)
+    holds_close : Holds (take (newest ls) es) (point_of p)
     holds_close =
         let last = length ls - 1 in
         let at = ap (λ xs. get_or xs last p) taken ∙ get_or_push rest p p last count in
         subst (λ q. Holds (take (newest ls) es) (point_of q)) at (saved last p (omega arith))
 
-    pub one_each_close : length rest ≡ length (take (length ls - 1) ls)
+    one_each_close : length rest ≡ length (take (length ls - 1) ls)
     one_each_close = count ∙ sym (length-take-le (length ls - 1) ls (omega arith))
+
+    pub fits_close : Fits (take (newest ls) es) (take (length ls - 1) ls) rest p
+    fits_close = record { saved_each = saved_close; holds = holds_close; one_each = one_each_close }
 
   -- a row is answered
   pub saved_answered : (row : Row) (p p' : Potentials) (r : Result (Unit {0}) Refusal) (es' : List Edge) → Accepted es row p r es' p' → Saved es' ls ps

@@ -1,5 +1,5 @@
 -- The walk over the edges out of the nearest unknown, and its settling. Assumes nothing.
-use Rattle.std.proofs.Common.{◌≡◌, ℕ, ◌+◌, ◌-◌, ◌*◌, ◌<◌, ◌≤◌, List, length, get_or, ℤ, ◌+ℤ◌, nat_abs, ◌≤ℤ◌, ◌<ℤ◌, sym, refl, ap, ◌∙◌, subst, ⊎_elim, arith}
+use Rattle.std.proofs.Common.{◌≡◌, ℕ, ◌+◌, ◌-◌, ◌*◌, ◌<◌, ◌≤◌, List, length, get_or, ℤ, ◌+ℤ◌, nat_abs, ◌≤ℤ◌, ◌<ℤ◌, sym, ap, ◌∙◌, subst, ⊎_elim, arith}
 use Rattle.std.specs.List.{AllWithin}
 use Rattle.std.proofs.lemmas.List.{get_or_default}
 use Rattle.std.proofs.lemmas.Bool.{cases_lt, cases_eq}
@@ -32,16 +32,6 @@ partial_more n k more s = record {
   ordered = s.ordered;
   below = s.below;
   small = λ r r_in some. let l = s.small r r_in some in omega arith;
-}
-
-pub walk_start : (es : List Edge) (v lo : ℕ) (m : ℕ → ℕ) (val : ℕ → ℤ) → Link es v lo (length es) → Walked es v lo m m val val
-walk_start es v lo m val l p start limit n keeps s near = record {
-  partial = partial_more n (n + 1) (omega arith) s;
-  nearest = near;
-  value = refl;
-  short = s.small v near.within (omega (arith, near.tentative));
-  done = λ k d low high out. absurd (l.none k d low high out);
-  settled = λ r r_in. ((λ two. two), (λ two. two));
 }
 
 module _ (es : List Edge) (ends : AllWithin (λ f. (source f < 64) × (target f < 64)) es 0 (length es)) (v i : ℕ) (i_in : i < length es) (e : Edge) (e_is : e ≡ get_or es i e) (out : source e ≡ v) (e_near : nat_abs e.row.c ≤ 4000000) (next : Link es (source e) e.next i) where

@@ -1,3 +1,2 @@
 pub mod Faults
-pub mod Emptiness
 pub mod Unique

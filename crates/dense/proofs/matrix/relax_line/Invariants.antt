@@ -1,6 +1,6 @@
 use Rattle.std.proofs.Common.{◌≡◌, None}
 use Rattle.dense.specs.Entries.{line_with_row}
-use Rattle.dense.proofs.Lines.{Done}
+use Rattle.differences.proofs.Lines.{Done}
 use Rattle.dense.proofs.matrix.relax_line.Given as goal
 
 abbrev pub invariant-loop-j : goal.invariant-loop-j

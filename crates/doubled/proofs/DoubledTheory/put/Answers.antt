@@ -1,14 +1,12 @@
 use Rattle.std.proofs.Common.{refl}
 use Rattle.std.proofs.lemmas.Result.{err_from_is_err_and}
-use Rattle.theory.specs.Calls.{put_fault}
-use Rattle.theory.proofs.Faults.{fault_of_err, point_refuses}
+use Rattle.theory.proofs.Faults.{check_refuses, point_refuses}
 use Rattle.doubled.proofs.DoubledTheory.put.Goals as goal
 
 pub returns-in_err-check_put : goal.returns-in_err-check_put
 returns-in_err-check_put g c =
     let p = err_from_is_err_and c.from_residual.result c.from_residual.ensures.1 in
-    let fault = fault_of_err (put_fault c.args.self.now.standing c.args.row) _ (cc c.in_err-check_put.ensures) in
-    rw (p.1, p.2) (rw fault refl, refl)
+    rw (p.1, p.2) (check_refuses _ _ _ (cc c.in_err-check_put.ensures), refl)
 
 pub returns-in_err-check_point : goal.returns-in_err-check_point
 returns-in_err-check_point g c =

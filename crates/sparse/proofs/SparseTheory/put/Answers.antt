@@ -1,7 +1,7 @@
 use Rattle.std.proofs.Common.{◌≡◌, None, refl}
 use Rattle.std.proofs.lemmas.Result.{err_from_is_err_and}
 use Rattle.theory.specs.Calls.{put_fault}
-use Rattle.theory.proofs.Faults.{fault_of_err, no_fault_of_ok, passed_both}
+use Rattle.theory.proofs.Faults.{check_refuses, no_fault_of_ok, passed_both}
 use Rattle.trail.specs.Trails.{items}
 use Rattle.sparse.specs.Graphs.{edges_of, levels_of}
 use Rattle.sparse.specs.State.{meaning_of}
@@ -11,8 +11,7 @@ use Rattle.sparse.proofs.SparseTheory.put.Goals as goal
 pub returns-in_err-check_put : goal.returns-in_err-check_put
 returns-in_err-check_put c =
     let p = err_from_is_err_and c.from_residual.result c.from_residual.ensures.1 in
-    let fault = fault_of_err _ _ c.in_err-check_put.ensures in
-    rw (p.1, p.2) (rw (← c.row_count.ensures, fault) refl, refl)
+    rw (p.1, p.2) (check_refuses _ _ _ (cc c.in_err-check_put.ensures), refl)
 
 pub invariant_of-self-clause-holds : goal.invariant_of-self-clause-holds
 invariant_of-self-clause-holds c = holds_answered _ _ c.args.row c.args.self.now.potentials _ c.accept.result c.args.self.now.holds c.accept.ensures.answers
@@ -25,6 +24,5 @@ invariant_of-self-clause-saved_each c =
 pub returns : goal.returns
 returns c =
     let s = c.args.self.now in
-    let told = no_fault_of_ok _ c.in_ok-check_put.ensures in
-    let passed : put_fault (meaning_of s) c.args.row ≡ None = rw (← c.row_count.ensures) told in
+    let passed : put_fault (meaning_of s) c.args.row ≡ None = rw (← c.row_count.ensures) (no_fault_of_ok _ c.in_ok-check_put.ensures) in
     put_answered s.graph c.accept.new.graph c.args.row s.potentials c.accept.new.potentials c.accept.result (passed_both _ _ _ passed).0 c.accept.ensures.levels passed c.accept.ensures.answers

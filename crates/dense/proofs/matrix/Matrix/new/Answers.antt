@@ -1,6 +1,7 @@
 use Rattle.std.proofs.Common.{◌∙◌, arith, rules}
 use Rattle.std.proofs.lemmas.List.{get_or-replicate}
-use Rattle.dense.proofs.Lines.{done_more, diagonal}
+use Rattle.differences.proofs.Lines.{done_more}
+use Rattle.dense.proofs.Lines.{diagonal}
 use Rattle.dense.proofs.matrix.Matrix.new.Goals as goal
 
 pub loop-i-preserved : goal.loop-i-preserved

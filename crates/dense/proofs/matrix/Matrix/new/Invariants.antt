@@ -1,6 +1,6 @@
 use Rattle.std.proofs.Common.{[]}
 use Rattle.dense.specs.Entries.{LineHolds, no_bounds}
-use Rattle.dense.proofs.Lines.{Done}
+use Rattle.differences.proofs.Lines.{Done}
 use Rattle.dense.proofs.matrix.Matrix.new.Given as goal
 
 abbrev pub invariant-loop-i : goal.invariant-loop-i

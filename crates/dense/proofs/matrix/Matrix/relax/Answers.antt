@@ -1,5 +1,5 @@
 use Rattle.std.proofs.Common.{rules}
-use Rattle.dense.proofs.Lines.{done_more}
+use Rattle.differences.proofs.Lines.{done_more}
 use Rattle.dense.proofs.matrix.Matrix.relax.Goals as goal
 
 pub loop-line-preserved : goal.loop-line-preserved

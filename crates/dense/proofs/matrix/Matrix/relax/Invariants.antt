@@ -1,7 +1,7 @@
 use Rattle.std.proofs.Common.{[]}
 use Rattle.bounds.specs.Tables.{with_row}
 use Rattle.dense.specs.Entries.{entry, LineHolds}
-use Rattle.dense.proofs.Lines.{Done}
+use Rattle.differences.proofs.Lines.{Done}
 use Rattle.dense.proofs.matrix.Matrix.relax.Given as goal
 
 abbrev pub invariant-loop-line : goal.invariant-loop-line

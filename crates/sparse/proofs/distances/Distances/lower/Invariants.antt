@@ -1,7 +1,7 @@
 use Rattle.std.proofs.Common.{pos, get_or}
 use Rattle.sparse.specs.Searches.{mark_of, value_of}
 use Rattle.sparse.specs.Distances.{Lowered}
-use Rattle.sparse.proofs.Lines.{Done}
+use Rattle.differences.proofs.Lines.{Done}
 use Rattle.sparse.proofs.distances.Distances.lower.Given as goal
 
 abbrev pub invariant-loop-r : goal.invariant-loop-r

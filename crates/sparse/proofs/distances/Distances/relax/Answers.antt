@@ -3,7 +3,7 @@ use Rattle.sparse.specs.Edges.{number_of}
 use Rattle.sparse.specs.Graphs.{edges_of}
 use Rattle.sparse.specs.Searches.{mark_of, value_of}
 use Rattle.sparse.specs.Distances.{Walked}
-use Rattle.sparse.proofs.Sums.{sum_is}
+use Rattle.differences.proofs.Sums.{sum_is}
 use Rattle.sparse.proofs.Graphs.{stands, fair_ends}
 use Rattle.sparse.proofs.Offers.{size_sum}
 use Rattle.sparse.proofs.Walks.{Underway, walk_on, offered_as}
