@@ -83,13 +83,13 @@ impl<T: Theory> Doubled<T> {
         self.below.tight(terms)
     }
 
-    // Rule 7.
+    // Rule 7. The test is the dense bottom's, of another greatest value; as a function it would need bounds on both numbers.
     fn check_point(&mut self, row: Row) -> Result<(), Refusal>
         requires fair { row_fault self.old.standing.sizes row ≡ None }
         ensures same { self.new.standing ≡ self.old.standing }
         ensures answers { PointChecked self.old.standing.rows row result }
     {
-        let most = self.greatest(Terms::of(row.side).opposite());
+        let most = self.greatest(Terms::from(row.side).opposite());
         if most.is_some_and(|most| most + row.c < 0) {
             return Err(Refusal::Contradiction);
         }
@@ -102,7 +102,7 @@ impl<T: Theory> Doubled<T> {
         requires point { Feasible (self.old.standing.rows ++ row ∷ []) }
         ensures { self.new.standing ≡ with_row self.old.standing row }
     {
-        self.below.send(Terms::of(row.side), row.c);
+        self.below.send(Terms::from(row.side), row.c);
         self.standing.add(row);
     }
 }
@@ -149,7 +149,7 @@ impl<T: Theory> Theory for Doubled<T> {
     // One question below for a bound, and at most three for two unknowns.
     fn tightest(&mut self, side: Side) -> Result<Option<i64>, Refusal> {
         check_side(self.sizes(), side)?;
-        Ok(self.greatest(Terms::of(side)))
+        Ok(self.greatest(Terms::from(side)))
     }
 }
 

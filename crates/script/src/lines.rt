@@ -4,23 +4,17 @@ use histories::Call;
 use std::alloc::{AllocError, Global};
 use towers::Tower;
 
-// A line that is answered: a call, by its place among the calls, or one that says nothing known.
-#[derive(Clone, Copy)]
-pub enum Line {
-    Unreadable,
-    Call(usize),
-}
-
 #[derive(Clone, Copy)]
 pub struct Towers {
     pub first: Tower,
     pub second: Tower,
 }
 
+// Each line that is answered is a call, by its place among the calls, or none that is known.
 #[derive(Drop)]
 pub struct Script {
     pub towers: Option<Towers>,
-    pub lines: Vec<Line>,
+    pub lines: Vec<Option<usize>>,
     pub calls: Vec<Call>,
 }
 
@@ -47,13 +41,13 @@ impl Script {
                 first: tower,
                 second: tower,
             }),
-            _ => script.lines.push(Line::Unreadable)?,
+            _ => script.lines.push(None)?,
         }
         for line in lines {
             match read_line(line) {
                 Some(Said::Against(tower)) if known(tower) => script.compare_with(tower)?,
                 Some(Said::Call(call)) => script.call(call)?,
-                _ => script.lines.push(Line::Unreadable)?,
+                _ => script.lines.push(None)?,
             }
         }
         Ok(script)
@@ -61,9 +55,9 @@ impl Script {
 
     fn call(&mut self, call: Call) -> Result<(), AllocError> {
         if self.towers.is_none() {
-            return Ok(self.lines.push(Line::Unreadable)?);
+            return Ok(self.lines.push(None)?);
         }
-        self.lines.push(Line::Call(self.calls.len()))?;
+        self.lines.push(Some(self.calls.len()))?;
         Ok(self.calls.push(call)?)
     }
 
@@ -74,7 +68,7 @@ impl Script {
                 self.towers = Some(Towers { first, second });
                 Ok(())
             }
-            _ => Ok(self.lines.push(Line::Unreadable)?),
+            _ => Ok(self.lines.push(None)?),
         }
     }
 

@@ -1,16 +1,14 @@
 // Prints the answers of a history, one to a line, and what it showed in the end.
-use crate::lines::{Line, Script};
+use crate::lines::Script;
 use histories::History;
 use histories::text::AnswerText;
 use std::io;
 
-fn print_line(rt: &HostRuntime, line: Line, history: &History) -> io::Result<()> {
-    match line {
-        Line::Unreadable => println!(rt; "unreadable"),
-        Line::Call(place) => match history.answers.get(place) {
-            Some(answer) => println!(rt; "{}", AnswerText(*answer)),
-            None => Ok(()),
-        },
+// The answer of the call at the place, or that the line is none.
+fn print_line(rt: &HostRuntime, call: Option<usize>, history: &History) -> io::Result<()> {
+    match call.and_then(|place| history.answers.get(place)) {
+        Some(answer) => println!(rt; "{}", AnswerText(*answer)),
+        None => println!(rt; "unreadable"),
     }
 }
 

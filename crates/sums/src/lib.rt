@@ -67,10 +67,10 @@ pub enum Terms {
     Two(Literal, Literal),
 }
 
-impl Terms {
-    pub fn of(side: Side) -> Terms
-        ensures { result ≡ terms_of side }
-    {
+impl From<Side> for Terms {
+    ghost from_gives = { λ side ts. ts ≡ terms_of side };
+
+    fn from(side: Side) -> Terms {
         let s = Literal::new(side.a, side.u);
         match side.b {
             Sign::Zero => Terms::One(s),
@@ -78,7 +78,9 @@ impl Terms {
             Sign::Minus => Terms::Two(s, Literal::Plus(side.v)),
         }
     }
+}
 
+impl Terms {
     // The terms of the opposite number.
     pub fn opposite(self) -> Terms
         ensures { Opposite self result }

@@ -9,10 +9,10 @@ send-requires-clause-room g c = over_room _ _ c.args.self.now.over c.requires.ro
 pub send-requires-clause-point : goal.send-requires-clause-point
 send-requires-clause-point g c =
     let fits : SFits w64 c.args.row.c = search rules in
-    rw (to_z-of_z w64 c.args.row.c fits, c.of.ensures) (over_point _ _ c.args.self.now.over c.args.row c.requires.fair c.requires.point)
+    rw (to_z-of_z w64 c.args.row.c fits, c.from.ensures) (over_point _ _ c.args.self.now.over c.args.row c.requires.fair c.requires.point)
 
 pub invariant_of-self : goal.invariant_of-self
 invariant_of-self g c =
     let fits : SFits w64 c.args.row.c = search rules in
-    let below = rw (to_z-of_z w64 c.args.row.c fits, c.of.ensures) at c.send.ensures.after in
+    let below = rw (to_z-of_z w64 c.args.row.c fits, c.from.ensures) at c.send.ensures.after in
     record { over = over_row _ _ c.args.self.now.over _ _ c.args.row c.requires.fair c.requires.room c.requires.point (cc) below }

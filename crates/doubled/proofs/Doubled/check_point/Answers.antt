@@ -18,7 +18,7 @@ pub returns-then-is_some_and-clause-answers : goal.returns-then-is_some_and-clau
 returns-then-is_some_and-clause-answers g c =
     let d = c.args.self.now in
     let row = c.args.row in
-    let turned = opposite_is d.standing.sizes row c.requires.fair c.opposite.result (rw c.of.ensures at c.opposite.ensures) in
+    let turned = opposite_is d.standing.sizes row c.requires.fair c.opposite.result (rw c.from.ensures at c.opposite.ensures) in
     let near = over_near _ _ d.over (g.met.T.Theory.sane d.below.theory) row c.requires.fair in
     (refl, (point_checked _ row _ turned near _ _ _ c.greatest-most.ensures.value c.greatest-most.ensures.near c.is_some_and.ensures (λ x q. search rules)).0 c.if-is_some_and.true)
 
@@ -26,6 +26,6 @@ pub returns-clause-answers : goal.returns-clause-answers
 returns-clause-answers g c =
     let d = c.args.self.now in
     let row = c.args.row in
-    let turned = opposite_is d.standing.sizes row c.requires.fair c.opposite.result (rw c.of.ensures at c.opposite.ensures) in
+    let turned = opposite_is d.standing.sizes row c.requires.fair c.opposite.result (rw c.from.ensures at c.opposite.ensures) in
     let near = over_near _ _ d.over (g.met.T.Theory.sane d.below.theory) row c.requires.fair in
     (point_checked _ row _ turned near _ _ _ c.greatest-most.ensures.value c.greatest-most.ensures.near c.is_some_and.ensures (λ x q. search rules)).1 c.if-is_some_and.false
