@@ -1,4 +1,4 @@
-// The dense bottom theory: rows x(u) − x(v) ≤ c over 64 unknowns, with the greatest value of every difference at hand.
+// The dense bottom theory: rows x(u) − x(v) ≤ c over 64 unknowns, and the greatest value of every difference.
 //
 // 1. Entry (i, j) of the matrix is the greatest value of x(i) − x(j) over the points that meet all standing rows, and is
 //    absent where there is none. So a question is one read.

@@ -1,7 +1,7 @@
 -- What a doubled theory means beside the theory below it, and what its methods need and leave. Assumes nothing.
 -- marks: the levels below.   Rising: levels open at rising numbers of rows.   Over: what the layer means, beside what the theory below means.
 -- Takes: a row that is accepted below.   with_images: the meaning below after a row.
--- Rising-prop, Over-prop: any two proofs are equal. So Over says that some point meets the rows, and not which; the law of theories draws one from a point below.
+-- Rising-prop, Over-prop: any two proofs are equal. So Over says that some point meets the rows, and not which; the law of theories makes one of a point below.
 use Rattle.std.specs.Prelude.{◌≡◌, ℕ, ◌<◌, ◌≤◌, List, [], ◌∷◌, ◌++◌, map, length, take, ℤ, None, unsigned_abs}
 use Rattle.std.specs.List.{AllByRecursion}
 use Rattle.std.specs.Coded.{×_prop, le_prop}

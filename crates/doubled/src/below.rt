@@ -65,7 +65,7 @@ impl<T: Theory> Below<T> {
         }
     }
 
-    // Puts s − t ≤ c, where nothing speaks against it.
+    // Puts s − t ≤ c, where it is accepted.
     fn put(&mut self, s: Literal, t: Literal, c: i64)
         requires { Takes (T.meaning self.old.theory) (lit s) (lit t) c }
         ensures { T.meaning self.new.theory ≡ with_row (T.meaning self.old.theory) (row_of (lit s) (lit t) c) }
@@ -77,7 +77,7 @@ impl<T: Theory> Below<T> {
         self.theory.put(row).unwrap();
     }
 
-    // Puts the images of a row, where nothing speaks against them.
+    // Puts the images of a row, where they are accepted.
     pub fn send(&mut self, terms: Terms, c: i64)
         requires within { Within (half_sizes (T.meaning self.old.theory).sizes).unknowns terms }
         requires near { unsigned_abs c ≤ (half_sizes (T.meaning self.old.theory).sizes).reach }

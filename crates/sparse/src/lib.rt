@@ -136,8 +136,8 @@ impl Theory for Sparse<'_> {
     }
 }
 
-// The answer to a row that breaks none of the rules 1 to 6. That it breaks none is a clause here and in three functions below:
-// a type for such a row would be made here once and opened again wherever the row is kept.
+// The answer to a row that breaks none of the rules 1 to 6. That it breaks none is a clause here and of `Graph::add`, `link` and
+// `Marks::repair`: a type for such a row would be made here once and opened again wherever the row is kept.
 //
 // Like the next two functions this takes the parts, since what ties them holds only once all have changed: in between, the
 // potentials hold with an edge that the graph does not have yet.

@@ -18,6 +18,7 @@ pub const HEADS: usize = 64;
 
 pub const MARKS: usize = 64;
 
+// Slices of fixed least lengths, since the caller lends the memory.
 #[derive(Drop)]
 pub struct Memory<'a> {
     pub edges: &'a mut [Edge],
@@ -32,14 +33,15 @@ impl Memory<'_> {
     pub fn check(&self) -> Result<(), Refusal>
         ensures { MatchResult result (λ _. Enough self.now) (λ e. (e ≡ Unfit) × (Enough self.now → ⊥)) }
     {
-        let fits = self.edges.len() >= EDGES
+        if self.edges.len() >= EDGES
             && self.levels.len() >= LEVELS
             && self.saved.len() >= SAVED
             && self.heads.len() >= HEADS
-            && self.marks.len() >= MARKS;
-        if !fits {
-            return Err(Refusal::Unfit);
+            && self.marks.len() >= MARKS
+        {
+            Ok(())
+        } else {
+            Err(Refusal::Unfit)
         }
-        Ok(())
     }
 }

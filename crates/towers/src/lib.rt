@@ -1,5 +1,5 @@
-// The towers of theories that the programs know: a bottom, and the layers over it. `over` hands what starts a tower to whoever
-// visits it, and lends the sparse bottom its memory for as long as the visit takes.
+// The towers of theories that the programs know: a bottom, and the layers over it. `over` hands what starts a tower to a
+// visit, and lends the sparse bottom its memory for as long as the visit takes.
 #![tactic(auto)]
 
 ghost use Rattle.std.specs.Prelude.{Some};

@@ -7,7 +7,8 @@ ghost use Rattle.theory.specs.declared.sizes.Breadth.TheVariants.{Differences};
 use histories::Call;
 use theory::row::{Row, Side, Sign};
 
-// A linear congruential generator, and the number of unknowns that sides are drawn from.
+// A linear congruential generator, and the number of unknowns that sides are drawn from. Each method says that the number stays,
+// since the field is public.
 #[derive(Clone, Copy)]
 pub struct Dice {
     state: u64,
