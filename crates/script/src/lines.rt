@@ -10,7 +10,8 @@ pub struct Towers {
     pub second: Tower,
 }
 
-// Each line that is answered is a call, by its place among the calls, or none that is known.
+// Each line that is answered is a call, by its place among the calls, or none that is known. The calls are a list of their own,
+// since a run takes them as a slice.
 #[derive(Drop)]
 pub struct Script {
     pub towers: Option<Towers>,

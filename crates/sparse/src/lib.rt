@@ -46,7 +46,8 @@ pub mod memory;
 mod potentials;
 pub mod room;
 
-// `saved` has the potentials of the time each open level opened, one entry for each.
+// `saved` has the potentials of the time each open level opened, one entry for each: a trail beside the edges' own, since all that
+// is taken back stands in trails, and a trail has entries of one kind.
 #[derive(Drop)]
 pub struct Sparse<'a> {
     graph: Graph<'a>,

@@ -11,6 +11,7 @@ use theory::Start;
 use theory::sizes::Breadth;
 use towers::{Tower, VisitBoth, over_both};
 
+// Two lists, since a run takes the calls as a slice.
 #[derive(Drop)]
 pub struct Trial {
     pub calls: Vec<Call>,
