@@ -1,4 +1,7 @@
 // The lines of a script: which of them are calls, and the towers that the engines stand over.
+ghost use Rattle.std.specs.Prelude.{◌≡◌, ◌-◌, vec_len, slice_index_or};
+ghost use Rattle.histories.specs.declared.Call.TheVariants.{Pop};
+
 use crate::words::{Said, read_line, says_nothing};
 use histories::Call;
 use std::alloc::{AllocError, Global};
@@ -74,7 +77,9 @@ impl Script {
     }
 
     // The call that both engines answer in the end: the last one, or a pop where there was none.
-    pub fn last_call(&self) -> Call {
+    pub fn last_call(&self) -> Call
+        ensures { result ≡ slice_index_or self.now.calls.items (vec_len self.now.calls - 1) Pop }
+    {
         self.calls.last().copied().unwrap_or(Call::Pop)
     }
 }
