@@ -59,9 +59,10 @@ impl Dense {
     pub fn new(alloc: Global) -> Result<Dense, AllocError>
         ensures { IfOk result (λ d. meaning_of d ≡ empty bottom_sizes) }
     {
+        // The levels first, since theirs is by far the largest block: so blocks of theories that went can be used again whole.
         Ok(Dense {
-            rows: Vec::with_capacity(alloc, SIZES.space as usize)?,
             levels: Vec::with_capacity(alloc, SIZES.depth as usize)?,
+            rows: Vec::with_capacity(alloc, SIZES.space as usize)?,
             matrix: Matrix::new(),
         })
     }

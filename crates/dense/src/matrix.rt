@@ -1,10 +1,8 @@
 // The matrix of upper bounds on the differences of 64 unknowns. Assumes that the bounds are small enough to be added.
 ghost use Rattle.std.specs.Prelude.{◌≡◌, ℕ, ◌<◌, ◌≤◌, unsigned_abs};
 ghost use Rattle.differences.specs.Tabled.{Near};
-ghost use Rattle.bounds.specs.Tables.{sum_of, with_row};
+ghost use Rattle.bounds.specs.Tables.{least_of, sum_of, with_row};
 ghost use Rattle.dense.specs.Entries.{entry, of_line, LineHolds, Holds, Small, far, further, no_bounds, line_with_row};
-
-use bounds::lesser;
 
 const SIDE: usize = 64;
 
@@ -64,7 +62,18 @@ fn relax_line(line: &mut Line, u: usize, c: i64, onward: &Line)
     };
     // A proof would know nothing of what is written through a `zip` of `iter_mut`.
     for (j, bound) in line.iter_mut().enumerate() {
-        *bound = lesser(*bound, sum(Some(through), onward[j]));
+        lower(bound, sum(Some(through), onward[j]));
+    }
+}
+
+// The bound becomes the lesser of itself and a chain's length. Written where it falls alone, since most bounds stay.
+fn lower(bound: &mut Option<i64>, chain: Option<i64>)
+    ensures { bound.new ≡ least_of bound.old chain }
+{
+    if let Some(length) = chain
+        && bound.is_none_or(|most| length < most)
+    {
+        *bound = chain;
     }
 }
 
