@@ -10,3 +10,7 @@ Run m [] [] n = m ≡ n
 Run m [] (a ∷ rest) n = ⊥
 Run m (c ∷ cs) [] n = ⊥
 Run m (c ∷ cs) (a ∷ rest) n = (k : Meaning) × Step m c a k × Run k cs rest n
+
+-- the calls, made one after the other from m on, get these answers
+abbrev pub Answered : Meaning → List Call → List Answer → Type 0
+Answered m calls answers = (n : Meaning) × Run m calls answers n

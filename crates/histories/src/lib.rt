@@ -3,11 +3,12 @@
 // Its contract is the law that no answer depends on more than the standing rows and open levels.
 #![tactic(auto)]
 
-ghost use Rattle.std.specs.Prelude.{◌≡◌, ◌≤◌, ◌++◌, map, length, IfOk, MatchResult, OnOk};
+ghost use Rattle.std.specs.Prelude.{◌≡◌, ◌≤◌, ◌++◌, map, length, Some, IfOk, MatchResult, OnOk};
 ghost use Rattle.histories.specs.Steps.{Step};
-ghost use Rattle.histories.specs.Runs.{Run};
+ghost use Rattle.histories.specs.Runs.{Run, Answered};
 ghost use Rattle.histories.specs.Told.{part, told_from, done_count, Rising, Tells};
 ghost use Rattle.histories.specs.Law.{Law, Faulted};
+ghost use Rattle.histories.specs.Text.{fault_text};
 ghost use Rattle.histories.specs.declared.Call.TheVariants.{Offer as TheOffer};
 ghost use Rattle.histories.specs.declared.Fault.TheVariants.{Memory};
 ghost use Rattle.theory.specs.Meaning.{empty};
@@ -61,6 +62,8 @@ pub enum Fault {
 }
 
 impl fmt::Display for Fault {
+    ghost output = { λ f. Some (fault_text f) };
+
     fn fmt<W: fmt::Write>(&self, f: &mut fmt::Formatter<W>) -> fmt::Result {
         f.write_str(match self {
             Fault::Memory => "out of memory",
@@ -142,11 +145,19 @@ fn count_done(answers: &[Answer]) -> usize
 }
 
 // The theory is empty, so only memory can be wanting.
-fn begin<S: Start>(alloc: Global, start: S) -> Result<Engine<S::Made>, Fault>
-    ensures { MatchResult result (λ e. e ≡ empty (S.starts start)) (λ f. f ≡ Memory) }
+fn begin<S: Start>(alloc: Global, start: S) -> Result<Engine<S::Made>, AllocError>
+    ensures { IfOk result (λ e. e ≡ empty (S.starts start)) }
 {
     let theory = start.start(alloc)?;
-    Engine::new(alloc, theory).map_err(|_| Fault::Memory)
+    Engine::new(alloc, theory).map_err(|_| AllocError)
+}
+
+// Makes the calls on one new engine over the theory, and keeps no more of it than the answers.
+pub fn answers<S: Start>(alloc: Global, start: S, calls: &[Call]) -> Result<Vec<Answer>, AllocError>
+    ensures { IfOk result (λ given. Answered (empty (S.starts start)) calls.now given.items) }
+{
+    let mut engine = begin(alloc, start)?;
+    play(alloc, &mut engine, calls)
 }
 
 // Tells an engine these rows and levels, and answers how many of the calls were taken.

@@ -2,9 +2,8 @@
 // standard error.
 #![tactic(auto)]
 
-use anyhow::Result;
-use histories::Fault;
-use std::alloc::Global;
+use std::alloc::{AllocError, Global};
+use std::io;
 use theory::sizes::Breadth;
 use towers::{Bottom, Layers, Tower};
 use trying::dice::Dice;
@@ -29,7 +28,7 @@ const BOTTOMS: [Tower; 2] = [
 ];
 
 // The same calls over each bottom.
-fn try_bottom(alloc: Global, bottom: Tower) -> std::result::Result<Tally, Fault> {
+fn try_bottom(alloc: Global, bottom: Tower) -> Result<Tally, AllocError> {
     let mut tally = Tally::default();
     let mut dice = Dice::new(1, oracle::UNKNOWNS);
     for _ in 0..ENGINES {
@@ -40,12 +39,12 @@ fn try_bottom(alloc: Global, bottom: Tower) -> std::result::Result<Tally, Fault>
             CALLS,
             || dice.difference_call(),
         )?;
-        let _ = trial.try_over(alloc, bottom, &mut tally)?;
+        let _ = trial.try_alone(alloc, bottom, &mut tally)?;
     }
     Ok(tally)
 }
 
-fn main(rt: HostRuntime) -> Result<()> {
+fn main(rt: HostRuntime) -> io::Result<()> {
     for bottom in &BOTTOMS {
         let tally = try_bottom(rt.alloc(), *bottom)?;
         println!(rt; "{bottom}: {tally}")?;

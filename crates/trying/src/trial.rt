@@ -5,11 +5,11 @@ ghost use Rattle.trying.specs.Counts.{capped_sum, GivesAll};
 use crate::oracle::Oracle;
 use crate::reference::Reference;
 use crate::tally::Tally;
-use histories::{Answer, Call, Fault, History};
+use histories::{Answer, Call, Fault, History, answers};
 use std::alloc::{AllocError, Global};
 use theory::Start;
 use theory::sizes::Breadth;
-use towers::{Tower, VisitBoth, over_both};
+use towers::{Tower, Visit, VisitBoth, over, over_both};
 
 // Two lists, since a run takes the calls as a slice.
 #[derive(Drop)]
@@ -44,8 +44,13 @@ impl Trial {
         Ok(trial)
     }
 
-    // Notes each answer of an engine over the tower.
-    pub fn try_over(&self, alloc: Global, tower: Tower, tally: &mut Tally) -> Result<History, Fault>
+    // Notes each answer of one engine over the tower.
+    pub fn try_alone(
+        &self,
+        alloc: Global,
+        tower: Tower,
+        tally: &mut Tally,
+    ) -> Result<Vec<Answer>, AllocError>
         ensures err { OnErr result (tally.new ≡ tally.old) }
         ensures calls { IfOk result (λ _.
             tally.new.calls ≡ capped_sum tally.old.calls (vec_len self.now.answers)) }
@@ -53,6 +58,24 @@ impl Trial {
             tally.new.refused ≡ capped_sum tally.old.refused (count_by is_err self.now.answers.items)) }
 
         // Unless the count is at its most already, it stays where all expected answers are given, and only there.
+        ensures wrong { tally.old.wrong < 2 ^ 64 - 1 → IfOk result (λ given.
+            (tally.new.wrong ≡ tally.old.wrong)
+            ↔ GivesAll self.now.answers.items given.items) }
+    {
+        let given = over(tower, Alone { alloc, trial: self })?;
+        tally.note_all(self.answers.as_slice(), given.as_slice());
+        Ok(given)
+    }
+
+    // Notes each answer of an engine over the tower, with the history of it and a second engine.
+    pub fn try_over(&self, alloc: Global, tower: Tower, tally: &mut Tally) -> Result<History, Fault>
+        ensures err { OnErr result (tally.new ≡ tally.old) }
+        ensures calls { IfOk result (λ _.
+            tally.new.calls ≡ capped_sum tally.old.calls (vec_len self.now.answers)) }
+        ensures refused { IfOk result (λ _.
+            tally.new.refused ≡ capped_sum tally.old.refused (count_by is_err self.now.answers.items)) }
+
+        // As above.
         ensures wrong { tally.old.wrong < 2 ^ 64 - 1 → IfOk result (λ history.
             (tally.new.wrong ≡ tally.old.wrong)
             ↔ GivesAll self.now.answers.items history.answers.items) }
@@ -60,6 +83,21 @@ impl Trial {
         let history = over_both(tower, tower, Trying { alloc, trial: self })?;
         tally.note_all(self.answers.as_slice(), history.answers.as_slice());
         Ok(history)
+    }
+}
+
+#[derive(Drop)]
+struct Alone<'a> {
+    alloc: Global,
+    trial: &'a Trial,
+}
+
+impl<'a> Visit for Alone<'a> {
+    type Outcome = Result<Vec<Answer>, AllocError>;
+
+    fn visit<S: Start + Drop>(self, start: S) -> Result<Vec<Answer>, AllocError> {
+        let Alone { alloc, trial } = self;
+        answers(alloc, start, trial.calls.as_slice())
     }
 }
 
