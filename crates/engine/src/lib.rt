@@ -2,8 +2,9 @@
 // below means them. Contracts see an engine as what it means.
 #![tactic(auto)]
 
-ghost use Rattle.std.specs.Prelude.{◌≡◌};
+ghost use Rattle.std.specs.Prelude.{◌≡◌, IfOk};
 ghost use Rattle.theory.specs.Calls.{Put, Push, Pop, Tightest, RowAt};
+ghost use Rattle.theory.specs.Meaning.{Sane};
 ghost use Rattle.standing.specs.Starts.{Started};
 
 use standing::Standing;
@@ -36,7 +37,8 @@ impl<T: Theory> Engine<T> {
     // Starts over an empty theory only; otherwise, and for want of memory, the theory is handed back as it was.
     // All memory is asked for here: space for the rows and levels that the sizes allow.
     pub fn new(alloc: Global, theory: T) -> Result<Engine<T>, Unstarted<T>>
-        ensures { Started T.meaning (λ e. e) (λ z. z) theory result }
+        ensures started { Started T.meaning (λ e. e) (λ z. z) theory result }
+        ensures sane { IfOk result Sane }
     {
         let sizes = theory.sizes();
         let (theory, standing) = Standing::over(alloc, theory, sizes)?;
@@ -44,7 +46,8 @@ impl<T: Theory> Engine<T> {
     }
 
     pub fn offer(&mut self, row: Row) -> Result<(), Refusal>
-        ensures { Put self.old row result self.new }
+        ensures answers { Put self.old row result self.new }
+        ensures sane { Sane self.new }
     {
         self.theory.put(row)?;
         self.standing.add(row);
@@ -52,7 +55,8 @@ impl<T: Theory> Engine<T> {
     }
 
     pub fn push(&mut self) -> Result<(), Refusal>
-        ensures { Push self.old result self.new }
+        ensures answers { Push self.old result self.new }
+        ensures sane { Sane self.new }
     {
         self.theory.push()?;
         self.standing.open_level();
@@ -60,7 +64,8 @@ impl<T: Theory> Engine<T> {
     }
 
     pub fn pop(&mut self) -> Result<(), Refusal>
-        ensures { Pop self.old result self.new }
+        ensures answers { Pop self.old result self.new }
+        ensures sane { Sane self.new }
     {
         self.theory.pop()?;
         self.standing.close_level();
@@ -68,7 +73,8 @@ impl<T: Theory> Engine<T> {
     }
 
     pub fn tightest(&mut self, side: Side) -> Result<Option<i64>, Refusal>
-        ensures { Tightest self.old side result self.new }
+        ensures answers { Tightest self.old side result self.new }
+        ensures sane { Sane self.new }
     {
         self.theory.tightest(side)
     }
