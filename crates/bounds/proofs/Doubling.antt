@@ -2,7 +2,7 @@
 use Rattle.std.proofs.Common.{◌≡◌, ℕ, ◌+◌, ◌*◌, ◌/◌, ◌%◌, ◌<◌, eqb, ℤ, pos, ◌+ℤ◌, ◌≤ℤ◌, Some, None, Option, ap, ◌∙◌, arith}
 use Rattle.std.proofs.lemmas.Int.{ints}
 use Rattle.std.proofs.lemmas.Bool.{eq-eqb, ne_eqb, cond-true, cond-false}
-use Rattle.bounds.specs.Literals.{Point, Literal, plus, minus, index, at}
+use Rattle.bounds.specs.Literals.{Point, Literal, plus, minus, index, mirror, at}
 use Rattle.bounds.specs.Tables.{AtMost, Allows}
 use Rattle.bounds.specs.Doubling.{code, literal, spread, half_of}
 use Rattle.bounds.proofs.Signs.{half_is}
@@ -18,6 +18,10 @@ code_apart (plus i) (plus j) h e = h (omega arith)
 code_apart (plus i) (minus j) h e = omega arith
 code_apart (minus i) (plus j) h e = omega arith
 code_apart (minus i) (minus j) h e = h (omega arith)
+
+pub code_mirror : (s : Literal) → code s ≡ code (mirror s) → ⊥
+code_mirror (plus k) e = omega arith
+code_mirror (minus k) e = omega arith
 
 pub literal_code : (s : Literal) → literal (code s) ≡ s
 literal_code (plus k) =

@@ -1,11 +1,11 @@
 -- The bounds of a further unknown leave room for a value where the table is closed. Assumes nothing.
-use Rattle.std.proofs.Common.{ℕ, ◌<◌, ◌⊎◌, List, ℤ, pos, ◌+ℤ◌, ◌-ℤ◌, neg_ℤ, ◌≤ℤ◌, subst, inl, inr, arith}
+use Rattle.std.proofs.Common.{ℕ, ◌<◌, ◌⊎◌, List, ◌∷◌, ℤ, pos, ◌+ℤ◌, ◌-ℤ◌, neg_ℤ, ◌≤ℤ◌, refl, subst, inl, inr, arith}
 use Rattle.std.proofs.lemmas.Int.{ints}
 use Rattle.bounds.specs.Literals.{Point, Literal, index, mirror, at}
 use Rattle.bounds.specs.Tables.{Table, AtMost, Closed}
-use Rattle.bounds.specs.Extension.{Among, Within, KeepsOver}
+use Rattle.bounds.specs.Extension.{Among, Within, KeepsOver, Agree}
 use Rattle.bounds.proofs.Bounds.{at_most_more, between}
-use Rattle.bounds.proofs.Signs.{mirror_mirror, mirrored, at_mirror}
+use Rattle.bounds.proofs.Signs.{mirror_mirror, mirrored, at_mirror, at_same}
 use Rattle.bounds.proofs.Lows.{Lower}
 
 -- V has t at most y where the unknowns ks have their values by p
@@ -53,3 +53,11 @@ module _ (n : ℕ) (V : Table) (cl : Closed n V) where
     -- a lower bound of a literal and one of its mirror add up to at most 0
     pub opposed : (t : Literal) → index t < n → (x y : ℤ) → Lower V p ks t x → Lower V p ks (mirror t) y → (x +ℤ y) ≤ℤ pos 0
     opposed t t_in x y low high = let l = room t t_in x (neg_ℤ y) low (upper_of t t_in y high) in omega (arith, ints)
+
+-- a point that keeps V over one more unknown and agrees with p on ks has each lower bound met
+pub low_holds : (V : Table) (p q : Point) (ks : List ℕ) (t : Literal) → KeepsOver (index t ∷ ks) q V → Agree ks p q → (y : ℤ) → Lower V p ks t y → y ≤ℤ at q t
+low_holds V p q ks t kept agree y (inl h) =
+    omega (arith, ints, at_mirror q t, between (V (mirror t) t) _ _ h (kept (mirror t) t (mirrored (Among (index t ∷ ks)) t (inl refl)) (inl refl)))
+low_holds V p q ks t kept agree y (inr b) =
+    let (r, m, h) = b in
+    omega (arith, ints, at_same p q r (agree (index r) m), between (V r t) _ _ h (kept r t (inr m) (inl refl)))

@@ -4,7 +4,7 @@ use lib.Signed.{≤ℤ_refl}
 use Rattle.std.proofs.lemmas.Int.{ints}
 use Rattle.bounds.specs.Literals.{Point}
 use Rattle.bounds.specs.Tables.{Differences, AtMost, Allows, sum_of, Metric, Meets, with_row, Admits}
-use Rattle.bounds.proofs.Bounds.{at_most_more, least_left, least_right, least_cases, least_allows, sum_at_most, sum_parts, sum_allows, zero_stays}
+use Rattle.bounds.proofs.Bounds.{at_most_more, between, least_left, least_right, least_cases, least_allows, least_allows_left, sum_at_most, sum_parts, sum_allows, zero_stays}
 
 -- the bound x on i − j through the row u − v ≤ c
 record Through (D : Differences) (u v : ℕ) (c : ℤ) (i j : ℕ) (x : ℤ) : Type 0 where
@@ -53,6 +53,10 @@ module _ (n : ℕ) (D : Differences) (u v : ℕ) (c : ℤ) (m : Metric n D) (u_i
     where
       own : (k : ℕ) → k < n → AtMost (D k k) (pos 0)
       own k k_in = subst (λ o. AtMost o (pos 0)) (sym (m.zero k k_in)) (≤ℤ_refl (pos 0))
+
+  -- a point that meets the new table meets the table and the row
+  pub row_complete : (p : Point) → Meets n p (with_row D u v c) → Meets n p D × ((p u -ℤ p v) ≤ℤ c)
+  row_complete p meets = (λ i j i_in j_in. least_allows_left (D i j) _ (p i -ℤ p j) (meets i j i_in j_in), between (with_row D u v c u v) c (p u -ℤ p v) row_enters (meets u v u_in v_in))
 
   module _ (ok : Admits D u v c) where
     back : (i : ℕ) (a b : ℤ) → i < n → AtMost (D v i) a → AtMost (D i u) b → pos 0 ≤ℤ ((a +ℤ b) +ℤ c)

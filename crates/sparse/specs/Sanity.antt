@@ -6,7 +6,7 @@ use Rattle.std.proofs.ByRecursion.{All-map, all_from_every}
 use Rattle.std.proofs.lemmas.Int.{ints}
 use Rattle.std.proofs.lemmas.List.{length-map}
 use Rattle.theory.specs.Meaning.{Sane}
-use Rattle.theory.specs.Rows.{Point, Meets}
+use Rattle.theory.specs.Rows.{Point, Meets, Feasible}
 use Rattle.differences.specs.Sides.{Fair}
 use Rattle.differences.proofs.Sides.{ends_of, fair_side}
 use Rattle.sparse.specs.declared.graph.Edge.{Edge}
@@ -23,10 +23,14 @@ meets_from_met x e fair h = let is = (ends_of e.row.side (fair_side e.row fair))
 pub all_from_keeps : (x : Point) (es : List Edge) → AllFair es → Keeps x es → AllByRecursion (Meets x) (rows_in es)
 all_from_keeps x es fair h = All-map (Meets x) (λ (e : Edge). e.row) es (all_from_every (λ e. Meets x e.row) es (λ k d low high. meets_from_met x (get_or es k d) (fair k d low high) (h k d low high)))
 
+-- the potentials are a point that meets the standing rows
+pub feasible_meaning : (s : Sparse) → Feasible (rows_in (edges_of s.graph))
+feasible_meaning s = (point_of s.potentials, all_from_keeps _ _ s.graph.fair s.holds.keeps)
+
 pub sane_meaning : (s : Sparse) → Sane (meaning_of s)
 sane_meaning s = record {
   limits = record { unknowns = omega arith; space = omega arith; depth = omega arith; reach = omega arith };
   rows_fit = omega (arith, s.graph.edges_fit, length-map (edges_of s.graph) (λ (e : Edge). e.row));
   levels_fit = s.graph.levels_fit;
-  point = (point_of s.potentials, all_from_keeps _ _ s.graph.fair s.holds.keeps);
+  point = feasible_meaning s;
 }

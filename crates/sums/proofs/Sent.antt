@@ -17,7 +17,7 @@ use Rattle.differences.specs.Tabled.{Bounds}
 use Rattle.sums.specs.declared.Terms.{Terms}
 use Rattle.sums.specs.declared.Terms.TheVariants.{One, Two}
 use Rattle.sums.specs.Terms.{lit, terms_of, Opposite, value_by, Within, images, sent, half_sizes}
-use Rattle.sums.proofs.Sides.{Said, said_of, opposite_value, images_met, images_turned, images_near, turned}
+use Rattle.sums.proofs.Sides.{Said, said_of, opposite_value, opposite_within, images_met, images_turned, images_near, turned}
 
 pub sent_append : (xs ys : List Row) → sent (xs ++ ys) ≡ sent xs ++ sent ys
 sent_append [] ys = refl
@@ -88,5 +88,8 @@ module _ (z : Sizes) where
         (rw (said.is p) (image_meets (terms_of r.side) r.c said.within parts.0), sent_meets rows fair.1 parts.1)
 
 -- the terms of the opposite of the side of a row that passes the rules
+pub opposite_in : (z : Sizes) (r : Row) → row_fault z r ≡ None → (ts : Terms) → Opposite (terms_of r.side) ts → Within z.unknowns ts
+opposite_in z r fair ts turned_terms = opposite_within z.unknowns (terms_of r.side) ts turned_terms (fair_said z r fair).within
+
 pub opposite_is : (z : Sizes) (r : Row) → row_fault z r ≡ None → (ts : Terms) → Opposite (terms_of r.side) ts → (p : Point) → value p r.side ≡ neg_ℤ (value_by p ts)
 opposite_is z r fair ts turned_terms p = omega (arith, ints, (fair_said z r fair).is p, opposite_value p (terms_of r.side) ts turned_terms)

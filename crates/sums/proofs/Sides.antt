@@ -1,5 +1,5 @@
 -- What the terms of a side come to, and what the images of a row say of points. Assumes nothing.
-use Rattle.std.proofs.Common.{◌≡◌, ℕ, ◌*◌, ◌<◌, ◌≤◌, ℤ, ◌+ℤ◌, ◌-ℤ◌, neg_ℤ, nat_abs, ◌≤ℤ◌, None, ap, arith}
+use Rattle.std.proofs.Common.{◌≡◌, ℕ, ◌*◌, ◌<◌, ◌≤◌, ℤ, ◌+ℤ◌, ◌-ℤ◌, neg_ℤ, nat_abs, ◌≤ℤ◌, None, sym, ap, arith}
 use Rattle.std.specs.List.{AllByRecursion}
 use Rattle.std.proofs.lemmas.Int.{ints}
 use Rattle.theory.specs.declared.row.Sign.{Sign}
@@ -42,6 +42,12 @@ opposite_value p (One s) (One r) h = rw h (at_mirror p (lit s))
 opposite_value p (One s) (Two q r) h = absurd h
 opposite_value p (Two s t) (One r) h = absurd h
 opposite_value p (Two s t) (Two q r) h = rw (h.0, h.1) (omega (arith, ints))
+
+pub opposite_within : (n : ℕ) (s r : Terms) → Opposite s r → Within n s → Within n r
+opposite_within n (One s) (One r) h w = rw h (mirrored (λ k. k < n) (lit s) w)
+opposite_within n (One s) (Two q r) h w = absurd h
+opposite_within n (Two s t) (One r) h w = absurd h
+opposite_within n (Two s t) (Two q r) h w = rw (h.0, h.1) (w.1, w.0, λ e. w.2 (sym e))
 
 -- what a row between literals says of a point below
 row_says : (p : Point) (s t : Literal) (c : ℤ) → (p (code s) -ℤ p (code t)) ≤ℤ c → Meets p (row_of s t c)
