@@ -3,18 +3,23 @@ ghost use Rattle.std.specs.Prelude.{◌≡◌};
 ghost use Rattle.theory.specs.Rules.{breadth_number};
 
 // The left sides that are taken: each breadth takes those of the ones before it too.
+// Without numbers of its own: compared by those it would cost a read of a table for each question.
 #[derive(Clone, Copy, PartialEq, Eq, PartialOrd, Ord, Debug)]
 pub enum Breadth {
-    Differences = 1,
-    Bounds = 2,
-    Sums = 3,
+    Differences,
+    Bounds,
+    Sums,
 }
 
 impl Breadth {
     pub fn number(self) -> u8
         ensures { result ≡ breadth_number self }
     {
-        self as u8
+        match self {
+            Breadth::Differences => 1,
+            Breadth::Bounds => 2,
+            Breadth::Sums => 3,
+        }
     }
 }
 
