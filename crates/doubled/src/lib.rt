@@ -66,11 +66,16 @@ impl<T: Theory> Doubled<T> {
         ensures { Started T.meaning (λ d. d.standing) half_sizes below result }
     {
         let sizes = halves(below.sizes());
-        let (theory, standing) = Standing::over(alloc, below, sizes)?;
-        Ok(Doubled {
-            below: Below { theory },
-            standing,
-        })
+        match Standing::empty(alloc, &below, sizes) {
+            Ok(standing) => Ok(Doubled {
+                below: Below { theory: below },
+                standing,
+            }),
+            Err(cause) => Err(Unstarted {
+                theory: below,
+                cause,
+            }),
+        }
     }
 
     // The greatest value of the terms over the points that meet the standing rows.
@@ -166,6 +171,9 @@ impl<S: Start> Start for OverDoubled<S> {
     fn start(self, alloc: Global) -> Result<Doubled<S::Made>, AllocError> {
         let below = self.0.start(alloc)?;
         // What was just started is empty, so that only memory can be wanting.
-        Doubled::new(alloc, below).map_err(|_| AllocError)
+        match Doubled::new(alloc, below) {
+            Ok(doubled) => Ok(doubled),
+            Err(_) => Err(AllocError),
+        }
     }
 }

@@ -41,8 +41,10 @@ impl<T: Theory> Engine<T> {
         ensures sane { IfOk result Sane }
     {
         let sizes = theory.sizes();
-        let (theory, standing) = Standing::over(alloc, theory, sizes)?;
-        Ok(Engine { theory, standing })
+        match Standing::empty(alloc, &theory, sizes) {
+            Ok(standing) => Ok(Engine { theory, standing }),
+            Err(cause) => Err(Unstarted { theory, cause }),
+        }
     }
 
     pub fn offer(&mut self, row: Row) -> Result<(), Refusal>

@@ -48,8 +48,13 @@ impl<T: Theory> Filter<T> {
         ensures { Started T.meaning (λ f. f.standing) (λ z. z) below result }
     {
         let sizes = below.sizes();
-        let (below, standing) = Standing::over(alloc, below, sizes)?;
-        Ok(Filter { below, standing })
+        match Standing::empty(alloc, &below, sizes) {
+            Ok(standing) => Ok(Filter { below, standing }),
+            Err(cause) => Err(Unstarted {
+                theory: below,
+                cause,
+            }),
+        }
     }
 }
 
@@ -112,6 +117,9 @@ impl<S: Start> Start for OverFilter<S> {
     // The theory below is empty, so only memory can be wanting.
     fn start(self, alloc: Global) -> Result<Filter<S::Made>, AllocError> {
         let below = self.0.start(alloc)?;
-        Filter::new(alloc, below).map_err(|_| AllocError)
+        match Filter::new(alloc, below) {
+            Ok(filter) => Ok(filter),
+            Err(_) => Err(AllocError),
+        }
     }
 }

@@ -1,6 +1,6 @@
 // Histories of engine calls. `run` makes a list of calls on an engine over one theory, tells a second engine over
-// another theory of the same sizes what then stands, and makes one further call on both.
-// Its contract is the law that no answer depends on more than the standing rows and open levels.
+// another theory of the same sizes what then stands, and makes one further call on both; `answers` makes calls on one engine.
+// The contract of `run` is the law that no answer depends on more than the standing rows and open levels.
 #![tactic(auto)]
 
 ghost use Rattle.std.specs.Prelude.{◌≡◌, ◌≤◌, ◌++◌, map, length, Some, IfOk, MatchResult, OnOk};
@@ -149,7 +149,10 @@ fn begin<S: Start>(alloc: Global, start: S) -> Result<Engine<S::Made>, AllocErro
     ensures { IfOk result (λ e. e ≡ empty (S.starts start)) }
 {
     let theory = start.start(alloc)?;
-    Engine::new(alloc, theory).map_err(|_| AllocError)
+    match Engine::new(alloc, theory) {
+        Ok(engine) => Ok(engine),
+        Err(_) => Err(AllocError),
+    }
 }
 
 // Makes the calls on one new engine over the theory, and keeps no more of it than the answers.

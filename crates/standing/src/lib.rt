@@ -38,8 +38,9 @@ impl Model for Standing {
 }
 
 impl Standing {
-    // Nothing stands yet, over an empty theory with these sizes.
-    fn empty<T: Theory>(alloc: Global, below: &T, sizes: Sizes) -> Result<Standing, Cause>
+    // Nothing stands yet, over an empty theory with these sizes. The theory is read where it lies: one that holds a table is
+    // dear to hand on.
+    pub fn empty<T: Theory>(alloc: Global, below: &T, sizes: Sizes) -> Result<Standing, Cause>
         ensures { MatchResult result (StartedOver (T.meaning below.now) sizes) (UnstartedBy (T.meaning below.now)) }
     {
         check_empty(below)?;
