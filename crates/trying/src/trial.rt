@@ -5,7 +5,7 @@ ghost use Rattle.trying.specs.Counts.{capped_sum, GivesAll};
 use crate::oracle::Oracle;
 use crate::reference::Reference;
 use crate::tally::Tally;
-use histories::{Answer, Call, Fault, History, answers};
+use histories::{Answer, Call, Fault, History};
 use std::alloc::{AllocError, Global};
 use theory::Start;
 use theory::sizes::Breadth;
@@ -67,7 +67,7 @@ impl Trial {
         Ok(given)
     }
 
-    // Notes each answer of an engine over the tower, with the history of it and a second engine.
+    // The same, and answers the history of that engine and of a second one.
     pub fn try_over(&self, alloc: Global, tower: Tower, tally: &mut Tally) -> Result<History, Fault>
         ensures err { OnErr result (tally.new ≡ tally.old) }
         ensures calls { IfOk result (λ _.
@@ -75,7 +75,7 @@ impl Trial {
         ensures refused { IfOk result (λ _.
             tally.new.refused ≡ capped_sum tally.old.refused (count_by is_err self.now.answers.items)) }
 
-        // As above.
+        // As with one engine alone.
         ensures wrong { tally.old.wrong < 2 ^ 64 - 1 → IfOk result (λ history.
             (tally.new.wrong ≡ tally.old.wrong)
             ↔ GivesAll self.now.answers.items history.answers.items) }
@@ -97,7 +97,7 @@ impl<'a> Visit for Alone<'a> {
 
     fn visit<S: Start + Drop>(self, start: S) -> Result<Vec<Answer>, AllocError> {
         let Alone { alloc, trial } = self;
-        answers(alloc, start, trial.calls.as_slice())
+        histories::answers(alloc, start, trial.calls.as_slice())
     }
 }
 
